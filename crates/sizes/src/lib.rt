@@ -1,0 +1,1 @@
+// The size of signed numbers. Laws alone: proofs/.
