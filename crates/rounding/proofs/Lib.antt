@@ -1,0 +1,3 @@
+mod Doubled
+mod Cases
+pub mod Only
