@@ -1,0 +1,1 @@
+// The operations of f64, by short names. Definitions alone: specs/.

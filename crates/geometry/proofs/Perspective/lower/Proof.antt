@@ -1,0 +1,18 @@
+-- `lower` is `with` of one coefficient and one rounded step. Assumes nothing.
+use Rattle.geometry.specs.Change.{lowered}
+use borrow.Author.Needs.{needs}
+use Rattle.geometry.proofs.Perspective.lower.Statement.{statement}
+use Rattle.geometry.proofs.Perspective.lower.Tie as tie
+
+coefficient-requires : tie.Need-coefficient-requires
+coefficient-requires c κs = search needs
+
+with-requires : tie.Need-with-requires
+with-requires c κs = search needs
+
+returns : tie.Need-returns
+unfolding lowered
+returns c = rw (c .with .ensures, c .before .coefficient .ensures)
+
+pub lower-spec : {M : Type 1} → statement M
+lower-spec = tie.close (tie.spec coefficient-requires with-requires returns)

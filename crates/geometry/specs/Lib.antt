@@ -1,0 +1,4 @@
+pub mod Create
+pub mod Map
+pub mod Unmap
+pub mod Change
