@@ -1,0 +1,2 @@
+mod Geometry
+pub mod Document01

@@ -1,0 +1,3 @@
+pub mod Case
+pub mod Geometry
+pub mod Table
