@@ -1,0 +1,36 @@
+-- What an answer says of the tests before it: none applied, or the later ones don't matter. Assumes nothing.
+use Prim.Native.Nat.{ℕ}
+use mathlib.Core.Path.{_≡_, refl}
+use mathlib.Core.Bool.{Bool, true, false}
+use mathlib.Core.List.{List, [], _∷_, _++_}
+use native.Mathlib.Omega.{arith}
+use Rattle.refusals.specs.Finding.{Finding, found, refused, refusedBy}
+use Rattle.refusals.specs.First.{Test, _when_, first, sound}
+use Rattle.refusals.specs.declared.Refusal.{Refusal}
+
+-- none of the tests applies, test by test
+abbrev pub Clear : List Test → Type 0
+Clear [] = Unit {0}
+Clear ((r when applies) ∷ tests) = (applies ≡ false) × Clear tests
+
+pub clear : (tests : List Test) → first tests sound ≡ sound → Clear tests
+clear [] e = tt
+clear ((r when true) ∷ tests) e = let z : _≡_ {A = ℕ} 0 1 = cc in absurd (omega arith)
+clear ((r when false) ∷ tests) e = (refl, clear tests e)
+
+-- tests of which none applies hand over to the tests after them
+pub first-after : {A : Type 0} (tests more : List Test) (answer : Finding A) → Clear tests → first (tests ++ more) answer ≡ first more answer
+first-after [] more answer c = refl
+first-after ((r when true) ∷ tests) more answer c = let z : _≡_ {A = ℕ} 0 1 = cc in absurd (omega arith)
+first-after ((r when false) ∷ tests) more answer c = first-after tests more answer (c .1)
+
+pub first-clear : {A : Type 0} (tests : List Test) (answer : Finding A) → Clear tests → first tests answer ≡ answer
+first-clear [] answer c = refl
+first-clear ((r when true) ∷ tests) answer c = let z : _≡_ {A = ℕ} 0 1 = cc in absurd (omega arith)
+first-clear ((r when false) ∷ tests) answer c = first-clear tests answer (c .1)
+
+-- a refusal stands, whatever is tested or answered after it
+pub first-stands : {A : Type 0} (tests more : List Test) (answer : Finding A) {n : ℕ} → first tests sound ≡ refused n → first (tests ++ more) answer ≡ refused n
+first-stands [] more answer e = let z : _≡_ {A = ℕ} 0 1 = cc in absurd (omega arith)
+first-stands ((r when true) ∷ tests) more answer e = cc
+first-stands ((r when false) ∷ tests) more answer e = first-stands tests more answer e
