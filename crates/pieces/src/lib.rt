@@ -1,0 +1,1 @@
+// Pieces of a picture: what they are (specs/) and laws about them (proofs/). No code.
