@@ -1,0 +1,4 @@
+pub mod Value
+pub mod Step
+pub mod Zeros
+pub mod Steps

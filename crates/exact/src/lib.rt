@@ -1,0 +1,1 @@
+// Where binary64 does whole numbers exactly. Laws alone: specs/ and proofs/.
