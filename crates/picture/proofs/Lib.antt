@@ -1,2 +1,4 @@
 pub mod Passed
 pub mod Judged
+pub mod Colours
+pub mod Bitmaps

@@ -1,2 +1,4 @@
 pub mod Verdict
 pub mod Sides
+pub mod Colour
+pub mod Bitmap

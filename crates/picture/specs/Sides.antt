@@ -3,6 +3,7 @@ use Prim.Native.Nat.{ℕ, _*_, _≤_, _<_}
 use mathlib.Core.Path.{_≡_}
 use mathlib.Core.Bool.{Bool, not, _&&_}
 use mathlib.Core.List.{List, [], _∷_}
+use mathlib.Core.Logic.{_⊎_}
 use lib.Dec.{eqb, ltb, leb}
 use Rattle.refusals.specs.Limits.{longestSide}
 use Rattle.refusals.specs.First.{Test, _when_}
@@ -15,6 +16,10 @@ side n = ltb 0 n && leb n longestSide
 -- 1: width or height is 0 or above 800
 abbrev pub sizeTest : ℕ → ℕ → Test
 sizeTest width height = Size when not (side width && side height)
+
+-- the same in words: width or height is 0 or above 800
+abbrev pub Unsized : ℕ → ℕ → Type 0
+Unsized width height = (width ≡ 0) ⊎ (longestSide < width) ⊎ (height ≡ 0) ⊎ (longestSide < height)
 
 -- 2: the picture's length is not width x height
 abbrev pub lengthTest : ℕ → ℕ → ℕ → Test

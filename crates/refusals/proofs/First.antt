@@ -1,9 +1,11 @@
--- What an answer says of the tests before it: none applied, or the later ones don't matter. Assumes nothing.
+-- What an answer says of the tests before it: none applied, or which was the first, and that the later ones don't matter. Assumes nothing.
 use Prim.Native.Nat.{ℕ}
 use mathlib.Core.Path.{_≡_, refl}
 use mathlib.Core.Bool.{Bool, true, false}
 use mathlib.Core.List.{List, [], _∷_, _++_}
+use mathlib.Core.Logic.{_⊎_, inl, inr}
 use native.Mathlib.Omega.{arith}
+use Rattle.refusals.specs.Numbers.{numberOf}
 use Rattle.refusals.specs.Finding.{Finding, found, refused, refusedBy}
 use Rattle.refusals.specs.First.{Test, _when_, first, sound}
 use Rattle.refusals.specs.declared.Refusal.{Refusal}
@@ -34,3 +36,13 @@ pub first-stands : {A : Type 0} (tests more : List Test) (answer : Finding A) {n
 first-stands [] more answer e = let z : _≡_ {A = ℕ} 0 1 = cc in absurd (omega arith)
 first-stands ((r when true) ∷ tests) more answer e = cc
 first-stands ((r when false) ∷ tests) more answer e = first-stands tests more answer e
+
+-- n is the number of a test that applies, and no test before it does
+abbrev pub Told : List Test → ℕ → Type 0
+Told [] n = ⊥
+Told ((r when applies) ∷ tests) n = ((applies ≡ true) × (numberOf r ≡ n)) ⊎ ((applies ≡ false) × Told tests n)
+
+pub told : (tests : List Test) {n : ℕ} → first tests sound ≡ refused n → Told tests n
+told [] e = let z : _≡_ {A = ℕ} 0 1 = cc in omega arith
+told ((r when true) ∷ tests) e = inl (refl, (cc))
+told ((r when false) ∷ tests) e = inr (refl, told tests e)

@@ -4,8 +4,6 @@ use borrow.Author.Tests.{le-ltb, lt-ltb}
 use Rattle.picture.specs.Sides.{side}
 use Rattle.picture.proofs.ladder.is_side.Statement.{statement}
 use Rattle.picture.proofs.ladder.is_side.Tie as tie
-use Rattle.picture.proofs.ladder.is_side.Reads as reads
-use Rattle.picture.proofs.ladder.is_side.Lts as lts
 
 returns : tie.Need-returns
 unfolding side

@@ -10,9 +10,6 @@ use Rattle.picture.specs.Sides.{side}
 use Rattle.picture.proofs.Passed.{side-true}
 use Rattle.picture.proofs.ladder.sides.Statement.{statement}
 use Rattle.picture.proofs.ladder.sides.Tie as tie
-use Rattle.picture.proofs.ladder.sides.Reads as reads
-use Rattle.picture.proofs.ladder.sides.Lts as lts
-use Rattle.picture.proofs.ladder.is_side.Reads as is-side-reads
 
 is-side-requires : tie.Need-is-side-requires
 is-side-requires c κs = search needs
