@@ -1,0 +1,2 @@
+mod Shares
+pub mod Ideal
