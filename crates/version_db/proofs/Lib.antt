@@ -1,0 +1,3 @@
+mod Table
+pub mod Rule
+pub mod Inside
