@@ -1,0 +1,25 @@
+-- An age order: numbers, the newest first. Assumes nothing.
+use Prim.Native.Nat.{ℕ, suc, _<_}
+use mathlib.Core.Path.{_≡_}
+use mathlib.Core.List.{List, [], _∷_, _++_, reverse}
+use mathlib.Core.Bool.{cond}
+use lib.ListN.{length, getD, take, drop}
+use lib.Dec.{eqb}
+
+-- k stands in l, at some place
+abbrev pub Stands : ℕ → List ℕ → Type 0
+Stands k l = (i : ℕ) × (i < length l) × (getD l i 0 ≡ k)
+
+-- l without the first k
+unfoldable pub without : ℕ → List ℕ → List ℕ
+without k [] = []
+without k (x ∷ l) = cond (eqb x k) l (x ∷ without k l)
+
+-- how often k stands in l
+unfoldable pub times : ℕ → List ℕ → ℕ
+times k [] = 0
+times k (x ∷ l) = cond (eqb x k) (suc (times k l)) (times k l)
+
+-- l with its first n turned round
+unfoldable pub turnedRound : ℕ → List ℕ → List ℕ
+turnedRound n l = reverse (take n l) ++ drop n l

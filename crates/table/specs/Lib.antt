@@ -1,0 +1,3 @@
+pub mod Age
+pub mod Table
+pub mod Sound
