@@ -1,18 +1,18 @@
 -- The test of refusal 9 is exact: it holds just where the table is sound. Assumes nothing.
-use Prim.Native.Nat.{ℕ, zero, suc, _+_, _≤_, _<_}
+use Prim.Native.Nat.{ℕ, zero, suc, _+_, _-_, _≤_, _<_}
 use native.Mathlib.Decide.{ℕ-discrete, decLt}
 use native.Mathlib.Omega.{arith}
 use mathlib.Core.Path.{_≡_, refl, sym, ap, subst, _∙_}
 use mathlib.Core.List.{List, [], _∷_}
 use mathlib.Core.Bool.{true, _&&_, and-eq-true-iff}
 use mathlib.Core.Logic.{_↔_, by-cases}
-use lib.ListN.{length, take}
-use lib.Seq.{length-take-le}
+use lib.ListN.{length, getD, take}
+use lib.Seq.{length-take-le, getD-take}
 use lib.Dec.{eqb, ltb, leb}
 use borrow.Author.Tests.{eq-eqb, ne-eqb, eqb-true, ltb-true, lt-ltb, leb-true, le-leb}
 use Rattle.table.specs.Age.{times}
-use Rattle.table.specs.Table.{most}
-use Rattle.table.specs.Sound.{OnceEach, Ordered, Sound, onceEach, allInside, soundTest}
+use Rattle.table.specs.Table.{most, entryOf, oldestOf}
+use Rattle.table.specs.Sound.{OnceEach, Ordered, Inside, Sound, onceEach, allInside, soundTest}
 use Rattle.table.proofs.Seeds.{seeds-inside, inside-seeds}
 use Rattle.table.specs.declared.Table.{Table}
 
@@ -95,24 +95,49 @@ module _ (n : ℕ) where
       rw (lt-ltb x n (omega arith), last)
       (few-once l (λ k. omega (arith, fewer k, few k)) (λ k h. omega (arith, fewer k, none k h)))
 
+  once-below : (l : List ℕ) (i : ℕ) → 0 < n → onceEach n l ≡ true → getD l i 0 < n
+  once-below [] i some t = some
+  once-below (x ∷ l) zero some t = once-cons x l t .0
+  once-below (x ∷ l) (suc i) some t = once-below l i some (once-cons x l t .2)
+
   pub once-exact : (l : List ℕ) → length l ≡ n → (onceEach n l ≡ true) ↔ OnceEach n l
   once-exact l len = (
     (λ t. record { each = tally-full l (once-few l t) n (omega (arith, once-tally l t)); no-other = once-low l t }),
     (λ o. few-once l (λ k. by-cases (decLt k n) (λ h. omega (arith, o .each k h)) (λ h. omega (arith, o .no-other k (omega arith)))) (o .no-other)),
   )
 
+-- what the test says of a table, part by part
+module _ (T : Table) (width height : ℕ) (t : soundTest T width height ≡ true) where
+  parts : (leb (T .n) most ≡ true) × (onceEach (T .n) (take (T .n) (T .age)) ≡ true) × (allInside (T .entries) (T .n) width height ≡ true)
+  unfolding soundTest
+  parts =
+      let a = and-eq-true-iff (leb (T .n) most) _ .0 t in
+      let b = and-eq-true-iff (onceEach (T .n) (take (T .n) (T .age))) (allInside (T .entries) (T .n) width height) .0 (a .1) in
+      (a .0, b .0, b .1)
+
+  pub test-few : T .n ≤ most
+  test-few = leb-true (T .n) most (parts .0)
+
+  pub test-seeds : (k : ℕ) → k < T .n → Inside (entryOf T k) width height
+  test-seeds = seeds-inside (T .entries) (T .n) width height (parts .2)
+
+  pub test-oldest : 0 < T .n → oldestOf T < T .n
+  test-oldest some =
+      let h : T .n - 1 < T .n = omega arith in
+      subst (λ (k : ℕ). k < T .n) (getD-take (T .n) (T .age) (T .n - 1) 0 h) (once-below (T .n) (take (T .n) (T .age)) (T .n - 1) some (parts .1))
+
+  pub test-ordered : most ≤ length (T .age) → Ordered T
+  test-ordered whole =
+      record {
+        few = test-few;
+        order = once-exact (T .n) (take (T .n) (T .age)) (length-take-le (T .n) (T .age) (omega (arith, test-few))) .0 (parts .1);
+      }
+
 -- refusal 9 is given to just the tables that are not sound
 pub sound-exact : (T : Table) (width height : ℕ) → most ≤ length (T .age) → (soundTest T width height ≡ true) ↔ Sound T width height
 unfolding soundTest
 sound-exact T width height whole = (
-  (λ t.
-      let a = and-eq-true-iff (leb (T .n) most) _ .0 t in
-      let b = and-eq-true-iff (onceEach (T .n) (take (T .n) (T .age))) (allInside (T .entries) (T .n) width height) .0 (a .1) in
-      let few : T .n ≤ most = leb-true (T .n) most (a .0) in
-      record {
-        ordered = record { few = few; order = once-exact (T .n) (take (T .n) (T .age)) (length-take-le (T .n) (T .age) (omega arith)) .0 (b .0) };
-        seeds = seeds-inside (T .entries) (T .n) width height (b .1);
-      }),
+  (λ t. record { ordered = test-ordered T width height t whole; seeds = test-seeds T width height t }),
   (λ s.
       let few : T .n ≤ most = s .ordered .few in
       rw (

@@ -1,4 +1,4 @@
--- Every operation leaves a table that is in order in order, its arrays whole. Assumes nothing.
+-- Every operation leaves a sound table sound, its arrays whole. Assumes nothing.
 use Prim.Native.Nat.{ℕ, suc, _+_, _-_, _≤_, _<_}
 use native.Mathlib.Decide.{ℕ-discrete, decLt}
 use native.Mathlib.Numerals.{add-one}
@@ -7,11 +7,11 @@ use mathlib.Core.Path.{_≡_, refl, sym, ap, subst, _∙_}
 use mathlib.Core.List.{List, [], _∷_, _++_, reverse}
 use mathlib.Core.Logic.{by-cases}
 use lib.ListN.{length, getD, set, take, drop, length-set, length-append, length-drop, length-reverse}
-use lib.Seq.{length-take-le, take-append-seam, take-suc-set, getD-take}
+use lib.Seq.{length-take-le, take-append-seam, take-suc-set, getD-take, getD-set-same, getD-set-other}
 use borrow.Author.Tests.{eq-eqb, ne-eqb}
 use Rattle.table.specs.Age.{Stands, times, without, turnedRound}
-use Rattle.table.specs.Table.{most, emptyTable, oldestOf, newest, appended, rewritten, added, replaced, copyOf}
-use Rattle.table.specs.Sound.{OnceEach, Ordered}
+use Rattle.table.specs.Table.{most, blank, emptyTable, oldestOf, newest, appended, rewritten, added, replaced, copyOf}
+use Rattle.table.specs.Sound.{OnceEach, Ordered, Inside, Sound}
 use Rattle.table.proofs.Times.{times-append, times-reverse, times-stands, stands-times, times-front}
 use Rattle.table.specs.declared.Entry.{Entry}
 use Rattle.table.specs.declared.Table.{Table}
@@ -82,32 +82,71 @@ module _ (T : Table) (A : length (T .age) ≡ most) (O : Ordered T) where
       let front : take (T .n) (r ++ drop (T .n) (T .age)) ≡ r = ap (λ (j : ℕ). take j (r ++ drop (T .n) (T .age))) (sym len) ∙ take-append-seam r (drop (T .n) (T .age)) in
       record { few = O .few; order = once-same (T .n) (take (T .n) (T .age)) _ (λ k. rw front (times-reverse k (take (T .n) (T .age)))) (O .order) }
 
--- a table as each operation leaves it: its arrays whole, and in order
-pub record Proper (T : Table) : Type 0 where
+-- a table as each operation leaves it: its arrays whole, as the type says, and sound
+pub record Proper (T : Table) (width height : ℕ) : Type 0 where
   pub entries : length (T .entries) ≡ most
   pub age : length (T .age) ≡ most
-  pub ordered : Ordered T
+  pub sound : Sound T width height
 
-pub proper-empty : Proper emptyTable
+pub proper-empty : (width height : ℕ) → Proper emptyTable width height
 unfolding emptyTable times
-proper-empty =
+proper-empty width height =
     record {
       entries = refl;
       age = refl;
-      ordered = record { few = omega arith; order = record { each = λ k h. absurd (omega arith); no-other = λ k h. refl } };
+      sound =
+          record {
+            ordered = record { few = omega arith; order = record { each = λ k h. absurd (omega arith); no-other = λ k h. refl } };
+            seeds = λ k h. absurd (omega arith);
+          };
     }
 
-pub proper-newest : (T : Table) → Proper T → (k : ℕ) → k < T .n → Proper (newest T k)
-proper-newest T P k h = record { entries = P .entries; age = newest-length T (P .age) (P .ordered) k h; ordered = ordered-newest T (P .age) (P .ordered) k h }
+module _ {T : Table} {width height : ℕ} (P : Proper T width height) where
+  pub proper-newest : (k : ℕ) → k < T .n → Proper (newest T k) width height
+  proper-newest k h =
+      record {
+        entries = P .entries;
+        age = newest-length T (P .age) (P .sound .ordered) k h;
+        sound = record { ordered = ordered-newest T (P .age) (P .sound .ordered) k h; seeds = P .sound .seeds };
+      }
 
-pub proper-added : (T : Table) → Proper T → (e : Entry) → T .n < most → Proper (added T e)
-proper-added T P e room =
-    proper-newest (appended T e)
-    (record { entries = length-set (T .entries) (T .n) e ∙ P .entries; age = length-set (T .age) (T .n) (T .n) ∙ P .age; ordered = ordered-appended T (P .age) (P .ordered) e room })
-    (T .n) (omega arith)
+  pub proper-copy : Proper (copyOf T) width height
+  proper-copy =
+      record {
+        entries = P .entries;
+        age = copy-length T (P .age) (P .sound .ordered);
+        sound = record { ordered = ordered-copy T (P .age) (P .sound .ordered); seeds = P .sound .seeds };
+      }
 
-pub proper-replaced : (T : Table) → Proper T → (k : ℕ) (e : Entry) → k < T .n → Proper (replaced T k e)
-proper-replaced T P k e h = proper-newest (rewritten T k e) (record { entries = length-set (T .entries) k e ∙ P .entries; age = P .age; ordered = record { few = P .ordered .few; order = P .ordered .order } }) k h
+  -- the seeds after one entry is set
+  seeds-set : (k n : ℕ) (e : Entry) → k < most → ((j : ℕ) → j < n → (k ≡ j → ⊥) → j < T .n) → Inside e width height → (j : ℕ) → j < n → Inside (getD (set (T .entries) k e) j blank) width height
+  seeds-set k n e fits old ok j h =
+      by-cases (ℕ-discrete k j)
+      (λ g. rw (← g, getD-set-same (T .entries) k e blank (omega (arith, P .entries))) ok)
+      (λ m. rw (getD-set-other (T .entries) k j e blank (λ g. m (sym g))) (P .sound .seeds j (old j h m)))
 
-pub proper-copy : (T : Table) → Proper T → Proper (copyOf T)
-proper-copy T P = record { entries = P .entries; age = copy-length T (P .age) (P .ordered); ordered = ordered-copy T (P .age) (P .ordered) }
+  proper-appended : (e : Entry) → T .n < most → Inside e width height → Proper (appended T e) width height
+  proper-appended e room ok =
+      record {
+        entries = length-set (T .entries) (T .n) e ∙ P .entries;
+        age = length-set (T .age) (T .n) (T .n) ∙ P .age;
+        sound = record { ordered = ordered-appended T (P .age) (P .sound .ordered) e room; seeds = seeds-set (T .n) (T .n + 1) e room (λ j h m. omega arith) ok };
+      }
+
+  proper-rewritten : (k : ℕ) (e : Entry) → k < T .n → Inside e width height → Proper (rewritten T k e) width height
+  proper-rewritten k e h ok =
+      record {
+        entries = length-set (T .entries) k e ∙ P .entries;
+        age = P .age;
+        sound =
+            record {
+              ordered = record { few = P .sound .ordered .few; order = P .sound .ordered .order };
+              seeds = seeds-set k (T .n) e (omega (arith, P .sound .ordered .few)) (λ j l m. l) ok;
+            };
+      }
+
+pub proper-added : {T : Table} {width height : ℕ} → Proper T width height → (e : Entry) → T .n < most → Inside e width height → Proper (added T e) width height
+proper-added {T} P e room ok = proper-newest (proper-appended P e room ok) (T .n) (omega arith)
+
+pub proper-replaced : {T : Table} {width height : ℕ} → Proper T width height → (k : ℕ) (e : Entry) → k < T .n → Inside e width height → Proper (replaced T k e) width height
+proper-replaced P k e h ok = proper-newest (proper-rewritten P k e h ok) k h

@@ -6,3 +6,4 @@ pub mod Seeds
 pub mod Times
 pub mod Exact
 pub mod Kept
+pub mod Entries
