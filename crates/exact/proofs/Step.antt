@@ -1,25 +1,28 @@
 -- Each operation of binary64 on whole numbers: a sum, difference or product is the true one rounded once, so exact up to 2 ^ 53,
 -- a negation is always exact, a quotient is the true one rounded once, and only numbers above 0 are not below EPSILON. Assumes nothing.
 use Prim.Native.Nat.{ℕ, zero, suc, _+_, _-_, _*_, _^_, _<_, _≤_}
-use native.Mathlib.Nat.{mul-one, mul-comm, mul-assoc, mul-mul-mul-comm, mul-pos, add-mul, suc-mul, mul-sub, zero-lt-suc, mul-lt-mul-of-pos-right, lt-of-mul-lt-mul-right, eq-of-mul-eq-mul-right}
+use native.Mathlib.Nat.{mul-one, mul-comm, mul-assoc, mul-mul-mul-comm, mul-pos, add-mul, suc-mul, mul-sub, zero-lt-suc, mul-lt-mul-of-pos-right, mul-le-mul-right, eq-of-mul-eq-mul-right}
 use native.Mathlib.Omega.{arith}
 use mathlib.Core.Path.{_≡_, refl, sym, ap, _∙_, subst}
 use mathlib.Core.Bool.{Bool, true, false, not, _&&_, Bool·beq, cond}
-use lib.Dec.{T, ltb, eqb, ltb→lt, lt→ltb, nltb→le, eqb→eq}
-use lib.IntN.{ℤ, pos, negsuc, natAbs}
+use lib.Dec.{ltb, leb}
+use lib.Signed.{leZ}
+use lib.IntN.{ℤ, pos, negsuc, negℤ, natAbs}
+use borrow.Author.Tests.{ltb-true, ltb-false, lt-ltb, le-ltb, lt-leb, ne-eqb}
 use lib.Ieee as Ieee
 use lib.Ieee.{Float, nan, inf, fin, binary64, unlike, up, down, round, ofInt}
 use lib.Ieee.Fits.{down-pos, round-fits, neg-fits}
 use lib.Ieee.Back.{round-whole, whole-unique}
 use lib.Ieee.Scale.{round-same}
 use lib.Ieee.Positive.{first-pos}
-use Rattle.exact.specs.Signed.{Signed, IsWhole, signed, positive, plus, minus, times, negate, quotient}
+use Rattle.exact.specs.Signed.{Signed, IsWhole, signed, value, plus, minus, times, negate, quotient}
+use Rattle.exact.proofs.Value.{above-zero}
 
 -- a rounded to binary64
-abbrev rounded : Signed → Float
+abbrev pub rounded : Signed → Float
 rounded a = round binary64 (a .negative) (a .size) 1
 
-exactly : (a : Signed) → a .size ≤ 2 ^ 53 → IsWhole (rounded a) a
+pub exactly : (a : Signed) → a .size ≤ 2 ^ 53 → IsWhole (rounded a) a
 exactly a h = record { held = round-fits binary64 (a .negative) (a .size) 1; exact = round-whole binary64 (a .negative) (a .size) h }
 
 -- ---- one number, one float
@@ -49,24 +52,23 @@ whole-negate {x = inf s} p = absurd (p .exact)
 whole-negate {x = fin s m e} p = record { held = neg-fits binary64 (fin s m e) (p .held); exact = (ap not (p .exact .0), p .exact .1) }
 
 -- ---- the sum
--- a finite float's size, over a multiple of its own denominator
+-- a finite float's size, over its own denominator, and over a multiple of it
+own : (m : ℕ) (e : ℤ) (a : ℕ) → m * up e * 1 ≡ a * down e → m * up e ≡ a * down e
+own m e a h = sym (mul-one (m * up e)) ∙ h
+
 over : (m : ℕ) (e : ℤ) (a d : ℕ) → m * up e * 1 ≡ a * down e → m * up e * d ≡ a * (down e * d)
-over m e a d h = ap (λ (z : ℕ). z * d) (sym (mul-one (m * up e)) ∙ h) ∙ mul-assoc a (down e) d
+over m e a d h = ap (λ (z : ℕ). z * d) (own m e a h) ∙ mul-assoc a (down e) d
 
 -- n / c is the whole number k
-reduced : (s : Bool) (n k c : ℕ) → 0 < c → n ≡ k * c → round binary64 s n c ≡ round binary64 s k 1
+pub reduced : (s : Bool) (n k c : ℕ) → 0 < c → n ≡ k * c → round binary64 s n c ≡ round binary64 s k 1
 reduced s n k c h e = round-same binary64 s n c k 1 h (zero-lt-suc 0) (mul-one n ∙ e)
 
-test-same : (u v : Bool) → (T u → T v) → (T v → T u) → u ≡ v
-test-same true true f g = refl
-test-same true false f g = absurd (f tt)
-test-same false true f g = absurd (g tt)
-test-same false false f g = refl
-
 ltb-scale : (a b c : ℕ) → 0 < c → ltb (a * c) (b * c) ≡ ltb a b
-ltb-scale a b c h =
-    test-same (ltb (a * c) (b * c)) (ltb a b) (λ t. lt→ltb a b (lt-of-mul-lt-mul-right c (ltb→lt (a * c) (b * c) t)))
-    (λ t. lt→ltb (a * c) (b * c) (mul-lt-mul-of-pos-right (ltb→lt a b t) h))
+ltb-scale a b c h = go (ltb a b) refl
+  where
+    go : (t : Bool) → ltb a b ≡ t → ltb (a * c) (b * c) ≡ t
+    go true e = lt-ltb (a * c) (b * c) (mul-lt-mul-of-pos-right (ltb-true a b e) h)
+    go false e = le-ltb (a * c) (b * c) (mul-le-mul-right c (ltb-false a b e))
 
 sub-scale : (a b c : ℕ) → a * c - b * c ≡ (a - b) * c
 sub-scale a b c = sym (mul-comm (a - b) c ∙ mul-sub c a b ∙ simp mul-comm)
@@ -113,21 +115,11 @@ product-rounded {x = fin s m e} {y = fin t n d} {a} {b} p q =
     rw (p .exact .0, q .exact .0)
     (reduced (unlike (a .negative) (b .negative)) (m * up e * (n * up d)) (a .size * b .size) (down e * down d) (mul-pos (down-pos e) (down-pos d))
     (rw (own m e (a .size) (p .exact .1), own n d (b .size) (q .exact .1)) (mul-mul-mul-comm (a .size) (down e) (b .size) (down d))))
-  where
-    own : (m : ℕ) (e : ℤ) (a : ℕ) → m * up e * 1 ≡ a * down e → m * up e ≡ a * down e
-    own m e a h = sym (mul-one (m * up e)) ∙ h
 
 pub whole-times : {x y : Float} {a b : Signed} → IsWhole x a → IsWhole y b → times a b .size ≤ 2 ^ 53 → IsWhole (Ieee.mul binary64 x y) (times a b)
 whole-times {a} {b} p q h = subst (λ (z : Float). IsWhole z (times a b)) (sym (product-rounded p q)) (exactly (times a b) h)
 
 -- ---- the quotient
-not-zero : {X : Type 0} (n : ℕ) (x y : X) → 0 < n → cond (eqb n 0) x y ≡ y
-not-zero n x y h = go (eqb n 0) (eqb→eq n 0)
-  where
-    go : (t : Bool) → (T t → n ≡ 0) → cond t x y ≡ y
-    go true f = let e = f tt in absurd (omega arith)
-    go false f = refl
-
 -- the quotient of two whole numbers, the divisor not 0, is the true quotient rounded once
 pub whole-quotient : {x y : Float} {a b : Signed} → IsWhole x a → IsWhole y b → 0 < b .size
     → Ieee.div binary64 x y ≡ quotient (record { negative = unlike (a .negative) (b .negative); size = a .size }) (b .size)
@@ -141,25 +133,41 @@ whole-quotient {x = fin s m e} {y = fin t n d} {a} {b} p q h =
     let above : 0 < c = mul-pos (down-pos e) (down-pos d) in
     let below : n * up d * down e ≡ b .size * c = over n d (b .size) (down e) (q .exact .1) ∙ ap (λ (z : ℕ). b .size * z) (mul-comm (down d) (down e)) in
     let some : 0 < n * (up d * down e) = subst (λ (z : ℕ). 0 < z) (sym below ∙ mul-assoc n (up d) (down e)) (mul-pos h above) in
-    not-zero n (cond (eqb m 0) nan (inf (unlike s t))) (round binary64 (unlike s t) (m * up e * down d) (n * up d * down e)) (first-pos n (up d * down e) some)
-    ∙ rw (p .exact .0, q .exact .0, over m e (a .size) (down d) (p .exact .1), below)
+    let divisor : 0 < n = first-pos n (up d * down e) some in
+    rw (ne-eqb n 0 (omega arith), p .exact .0, q .exact .0, over m e (a .size) (down d) (p .exact .1), below)
     (round-same binary64 (unlike (a .negative) (b .negative)) (a .size * c) (b .size * c) (a .size) (b .size) (mul-pos h above) h
     (mul-assoc (a .size) c (b .size) ∙ ap (λ (z : ℕ). a .size * z) (mul-comm c (b .size))))
 
--- ---- below EPSILON
--- n * d * 2 ^ 52 is below d for no n but 0
-small : (n d : ℕ) → 0 < d → ltb (n * (d * 2 ^ 52)) (1 * d) ≡ not (ltb 0 n)
-small zero d h = test-same (ltb (0 * (d * 2 ^ 52)) (1 * d)) true (λ t. tt) (λ t. lt→ltb (0 * (d * 2 ^ 52)) (1 * d) (omega arith))
-small (suc n) d h =
-    test-same (ltb (suc n * (d * 2 ^ 52)) (1 * d)) (not (ltb 0 (suc n)))
-    (λ t. let k = ltb→lt (suc n * (d * 2 ^ 52)) (1 * d) t in let e = suc-mul n (d * 2 ^ 52) in absurd (omega arith))
-    (λ t. let k = nltb→le 0 (suc n) t in absurd (omega arith))
+unlike-false : (s : Bool) → unlike s false ≡ s
+unlike-false true = refl
+unlike-false false = refl
 
-pub below-epsilon : {x : Float} {a : Signed} → IsWhole x a → Ieee.lt x (fin false 1 (negsuc 51)) ≡ not (positive a)
+-- and over a number above 0 it has the dividend's sign
+pub whole-over : {x y : Float} {a b : Signed} (n : ℕ) → IsWhole x a → IsWhole y b → 0 < n → value b ≡ pos n → Ieee.div binary64 x y ≡ quotient a n
+unfolding quotient
+whole-over {x} {y} {a} {b} n p q h e =
+    let above : IsWhole y (record { negative = false; size = n }) = subst (λ (c : Signed). IsWhole y c) (above-zero b n h e) q in
+    whole-quotient p above h ∙ rw unlike-false
+
+-- ---- below EPSILON, 2 ^ -52
+-- n * d * 2 ^ 52 is below d for no n but 0
+small : (n d : ℕ) → 0 < d → ltb (n * (d * 2 ^ 52)) (1 * d) ≡ leb n 0
+small zero d h = lt-ltb (0 * (d * 2 ^ 52)) (1 * d) (omega arith)
+small (suc n) d h =
+    let e = suc-mul n (d * 2 ^ 52) in
+    le-ltb (suc n * (d * 2 ^ 52)) (1 * d) (omega arith) ∙ sym (lt-leb (suc n) 0 (zero-lt-suc n))
+
+-- a whole number is below EPSILON where it is 0 or less
+pub below-epsilon : {x : Float} {a : Signed} → IsWhole x a → Ieee.lt x (fin false 1 (negsuc 51)) ≡ leZ (value a) (pos 0)
 unfolding Ieee.lt
 below-epsilon {x = nan} p = absurd (p .exact)
 below-epsilon {x = inf s} p = absurd (p .exact)
 below-epsilon {x = fin true m e} {a} p =
-    rw (← p .exact .0) (test-same (ltb 0 (m * up e * 2 ^ 52 + 1 * down e)) true (λ t. tt) (λ t. lt→ltb 0 (m * up e * 2 ^ 52 + 1 * down e) (let h = down-pos e in omega arith)))
-below-epsilon {x = fin false m e} {a} p =
-    rw (← p .exact .0, over m e (a .size) (2 ^ 52) (p .exact .1)) (small (a .size) (down e) (down-pos e))
+    let h = down-pos e in
+    lt-ltb 0 (m * up e * 2 ^ 52 + 1 * down e) (omega arith)
+    ∙ rw (← p .exact .0) (low (a .size))
+  where
+    low : (n : ℕ) → true ≡ leZ (negℤ (pos n)) (pos 0)
+    low zero = refl
+    low (suc n) = refl
+below-epsilon {x = fin false m e} {a} p = rw (← p .exact .0, over m e (a .size) (2 ^ 52) (p .exact .1)) (small (a .size) (down e) (down-pos e))

@@ -39,6 +39,23 @@ worth-value is (a :- b) = value-minus (worth signeds is a) (worth signeds is b) 
 worth-value is (a :* b) = value-times (worth signeds is a) (worth signeds is b) ∙ ap₂ _*ℤ_ (worth-value is a) (worth-value is b)
 worth-value is (negated a) = value-negate (worth signeds is a) ∙ ap negℤ (worth-value is a)
 
+-- ---- no step is larger than it can get
+pub worth-size : {U : Type 0} (is : U → Signed) (most : U → ℕ) → ((v : U) → is v .size ≤ most v) → (t : Formula U) → worth signeds is t .size ≤ worth sizes most t
+unfolding worth times negate
+worth-size is most low (unknown v) = low v
+worth-size is most low (a :+ b) =
+    let h = size-plus (worth signeds is a) (worth signeds is b) in
+    let p = worth-size is most low a in
+    let q = worth-size is most low b in
+    omega arith
+worth-size is most low (a :- b) =
+    let h = size-minus (worth signeds is a) (worth signeds is b) in
+    let p = worth-size is most low a in
+    let q = worth-size is most low b in
+    omega arith
+worth-size is most low (a :* b) = let h = mul-le-mul (worth-size is most low a) (worth-size is most low b) in omega arith
+worth-size is most low (negated a) = worth-size is most low a
+
 -- ---- in floats
 pub last-step : {U : Type 0} (at : U → Float) (is : U → Signed) (t : Formula U) → Exact at is t → IsWhole (worth floats at t) (worth signeds is t)
 unfolding worth
@@ -49,27 +66,19 @@ last-step at is (a :* b) e = e .2
 last-step at is (negated a) e = e .1
 
 module _ {U : Type 0} (at : U → Float) (is : U → Signed) (most : U → ℕ) (all : (v : U) → IsWhole (at v) (is v)) (low : (v : U) → is v .size ≤ most v) where
-  worth-size : (t : Formula U) → worth signeds is t .size ≤ worth sizes most t
-  unfolding worth times negate
-  worth-size (unknown v) = low v
-  worth-size (a :+ b) = let h = size-plus (worth signeds is a) (worth signeds is b) in let p = worth-size a in let q = worth-size b in omega arith
-  worth-size (a :- b) = let h = size-minus (worth signeds is a) (worth signeds is b) in let p = worth-size a in let q = worth-size b in omega arith
-  worth-size (a :* b) = let h = mul-le-mul (worth-size a) (worth-size b) in omega arith
-  worth-size (negated a) = worth-size a
-
   pub exact-steps : (t : Formula U) → worth sizes most t ≤ 2 ^ 53 → Exact at is t
   unfolding worth
   exact-steps (unknown v) h = all v
   exact-steps (a :+ b) h =
       let p = exact-steps a (omega arith) in
       let q = exact-steps b (omega arith) in
-      (p, q, whole-plus (last-step at is a p) (last-step at is b q) (le-trans (worth-size (a :+ b)) h))
+      (p, q, whole-plus (last-step at is a p) (last-step at is b q) (le-trans (worth-size is most low (a :+ b)) h))
   exact-steps (a :- b) h =
       let p = exact-steps a (omega arith) in
       let q = exact-steps b (omega arith) in
-      (p, q, whole-minus (last-step at is a p) (last-step at is b q) (le-trans (worth-size (a :- b)) h))
+      (p, q, whole-minus (last-step at is a p) (last-step at is b q) (le-trans (worth-size is most low (a :- b)) h))
   exact-steps (a :* b) h =
       let p = exact-steps a (omega arith) in
       let q = exact-steps b (omega arith) in
-      (p, q, whole-times (last-step at is a p) (last-step at is b q) (le-trans (worth-size (a :* b)) h))
+      (p, q, whole-times (last-step at is a p) (last-step at is b q) (le-trans (worth-size is most low (a :* b)) h))
   exact-steps (negated a) h = let p = exact-steps a h in (p, whole-negate (last-step at is a p))

@@ -3,11 +3,10 @@ use Prim.Native.Nat.{ℕ, zero, suc, _+_, _-_, _*_, _<_, _≤_}
 use native.Mathlib.Nat.{mul-zero, zero-mul}
 use native.Mathlib.Omega.{arith}
 use mathlib.Core.Path.{_≡_, refl, sym, ap, _∙_}
-use mathlib.Core.Bool.{Bool, true, false, not, _&&_, cond}
+use mathlib.Core.Bool.{Bool, true, false, not, cond}
 use lib.Dec.{T, ltb, ltb→lt, nltb→le}
 use lib.IntN.{ℤ, pos, negsuc, negℤ, natAbs, _+ℤ_, _-ℤ_, _*ℤ_, +ℤ-comm, negℤ-+ℤ, negℤ-negℤ}
-use lib.Signed.{ltZ}
-use Rattle.exact.specs.Signed.{Signed, signed, value, positive, plus, minus, times, negate}
+use Rattle.exact.specs.Signed.{Signed, signed, value, plus, minus, times, negate}
 
 pub value-signed : (z : ℤ) → value (signed z) ≡ z
 value-signed (pos n) = refl
@@ -92,13 +91,13 @@ value-times a b = go (a .negative) (b .negative) (a .size) (b .size)
 
 -- ---- the sign is the integer's, but for a zero's
 -- a number above 0 has no minus sign
-pub above-zero : (a : Signed) (n : ℕ) → value a ≡ pos (suc n) → a ≡ record { negative = false; size = suc n }
-above-zero a n e = go (a .negative) (a .size) e
+pub above-zero : (a : Signed) (n : ℕ) → 0 < n → value a ≡ pos n → a ≡ record { negative = false; size = n }
+above-zero a n h e = go (a .negative) (a .size) e
   where
-    go : (s : Bool) (m : ℕ) → cond s (negℤ (pos m)) (pos m) ≡ pos (suc n) → _≡_ {A = Signed} (record { negative = s; size = m }) (record { negative = false; size = suc n })
+    go : (s : Bool) (m : ℕ) → cond s (negℤ (pos m)) (pos m) ≡ pos n → _≡_ {A = Signed} (record { negative = s; size = m }) (record { negative = false; size = n })
     go false m e = cc
-    go true zero e = absurd (let z : _≡_ {A = ℕ} 0 1 = cc in omega arith)
-    go true (suc m) e = absurd (let z : _≡_ {A = ℕ} 0 1 = cc in omega arith)
+    go true zero e = let z : 0 ≡ n = cc in absurd (omega arith)
+    go true (suc m) e = let z : _≡_ {A = ℕ} 0 1 = cc in absurd (omega arith)
 
 -- a signed whole number that is not 0 is the one that its integer is
 pub signed-value : (a : Signed) → 0 < a .size → signed (value a) ≡ a
@@ -108,12 +107,3 @@ signed-value a h = go (a .negative) (a .size) h
     go s zero h = absurd (omega arith)
     go false (suc m) h = refl
     go true (suc m) h = refl
-
--- above 0 by its sign and size, and as an integer, is one thing
-pub positive-value : (a : Signed) → positive a ≡ ltZ (pos 0) (value a)
-positive-value a = go (a .negative) (a .size)
-  where
-    go : (s : Bool) (m : ℕ) → not s && ltb 0 m ≡ ltZ (pos 0) (cond s (negℤ (pos m)) (pos m))
-    go false m = refl
-    go true zero = refl
-    go true (suc m) = refl

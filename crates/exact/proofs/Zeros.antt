@@ -1,11 +1,13 @@
 -- The sign of a zero result, by IEEE 754, 6.3, in cases: x - x is +0, -0 + -0 is -0, and a product's zero has the product of the signs. Assumes nothing.
-use Prim.Native.Nat.{_+_, _-_, _<_}
-use native.Mathlib.Nat.{mul-zero, sub-self, lt-irrefl}
+use Prim.Native.Nat.{zero, suc, _+_, _-_, _<_}
+use native.Mathlib.Nat.{mul-zero, sub-self, sub-zero, zero-add, lt-irrefl, zero-lt-suc}
 use mathlib.Core.Path.{_≡_, refl}
 use mathlib.Core.Bool.{Bool, true, false, not, _&&_, Bool·beq, cond}
 use lib.Dec.{T, ltb, ltb→lt}
+use lib.IntN.{ℤ, pos, negsuc}
 use lib.Ieee.{unlike}
-use Rattle.exact.specs.Signed.{Signed, plus, minus, times, negate}
+use borrow.Author.Tests.{lt-ltb}
+use Rattle.exact.specs.Signed.{Signed, signed, plus, minus, times, negate}
 
 -- the zero with this sign
 abbrev pub zeroOf : Bool → Signed
@@ -30,3 +32,19 @@ minus-zeros = refl
 pub times-zero : (a : Signed) (s : Bool) → times a (zeroOf s) ≡ zeroOf (unlike (a .negative) s)
 unfolding times
 times-zero a s = rw mul-zero
+
+pub plus-zeros : (s t : Bool) → plus (zeroOf s) (zeroOf t) ≡ zeroOf (s && t)
+unfolding plus
+plus-zeros false false = refl
+plus-zeros false true = refl
+plus-zeros true false = refl
+plus-zeros true true = refl
+
+-- a zero of either sign adds nothing to an integer
+pub plus-nothing : (s : Bool) (z : ℤ) → plus (zeroOf s) (signed z) ≡ signed z
+unfolding plus
+plus-nothing false (pos n) = rw zero-add
+plus-nothing true (pos zero) = refl
+plus-nothing true (pos (suc n)) = rw (lt-ltb 0 (suc n) (zero-lt-suc n), sub-zero)
+plus-nothing true (negsuc n) = rw zero-add
+plus-nothing false (negsuc n) = rw (lt-ltb 0 (suc n) (zero-lt-suc n), sub-zero)

@@ -25,10 +25,6 @@ signed (negsuc n) = record { negative = true; size = suc n }
 abbrev pub value : Signed → ℤ
 value a = cond (a .negative) (negℤ (pos (a .size))) (pos (a .size))
 
--- a is above 0
-abbrev pub positive : Signed → Bool
-positive a = not (a .negative) && ltb 0 (a .size)
-
 -- The sum, by IEEE 754, 6.3. Like signs: that sign, and the sizes add up. Unlike signs: the smaller size off the larger,
 -- with the larger's sign, and +0 where the sizes are equal.
 unfoldable pub plus : Signed → Signed → Signed

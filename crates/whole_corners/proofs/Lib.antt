@@ -1,0 +1,5 @@
+pub mod Source
+pub mod Denominators
+pub mod Whole
+pub mod Pixels
+pub mod Origin
