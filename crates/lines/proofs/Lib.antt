@@ -1,1 +1,4 @@
 pub mod Bounds
+pub mod Cramer
+pub mod Cut
+pub mod Meaning

@@ -72,6 +72,13 @@ pull x a v = sym (assoc x a v) ∙ ap (λ z. z *ℤ v) (*ℤ-comm x a) ∙ assoc
 cross-over : (a b c d : ℤ) → a +ℤ b +ℤ (c +ℤ d) ≡ a +ℤ c +ℤ (b +ℤ d)
 cross-over a b c d = sym (+ℤ-assoc (a +ℤ b) c d) ∙ ap (λ z. z +ℤ d) (swap a b c) ∙ +ℤ-assoc (a +ℤ c) b d
 
+-- ---- equal numbers have no difference
+pub no-diff : {u v : ℤ} → u ≡ v → u -ℤ v ≡ pos zero
+no-diff {u} {v} h = ap (λ z. z -ℤ v) h ∙ +ℤ-invr v
+
+pub equal : {u v : ℤ} → u -ℤ v ≡ pos zero → u ≡ v
+equal {u} {v} h = sym (-ℤ-+ℤ-cancel u v) ∙ ap (λ z. z +ℤ v) h ∙ +ℤ-idl v
+
 -- ---- polynomials: a number, or c + x p, where x is the first variable and c speaks of the others
 pub data Poly : Type 0 where
   num : ℤ → Poly
@@ -223,7 +230,4 @@ terms-value (s ⊗ t) vs = mul-value (terms s) (terms t) vs ∙ rw (terms-value 
 
 -- two expressions whose difference has no terms are equal: `same-terms (x ∷ y ∷ []) s t refl`
 pub same-terms : (vs : List ℤ) (s t : Term) → none (terms (s ⊖ t)) ≡ true → meant vs s ≡ meant vs t
-same-terms vs s t h =
-    sym (-ℤ-+ℤ-cancel (meant vs s) (meant vs t))
-    ∙ ap (λ z. z +ℤ meant vs t) (sym (terms-value (s ⊖ t) vs) ∙ none-value (terms (s ⊖ t)) vs h)
-    ∙ +ℤ-idl (meant vs t)
+same-terms vs s t h = equal (sym (terms-value (s ⊖ t) vs) ∙ none-value (terms (s ⊖ t)) vs h)
