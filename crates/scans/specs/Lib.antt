@@ -1,1 +1,3 @@
 pub mod Scan
+pub mod Points
+pub mod Walk

@@ -61,8 +61,13 @@ nextOf s =
     let a = s .a + s .n in
     cond (leb (s .d) a) (movedBy s (s .nonstep) (a - s .d)) (movedBy s (pos 0) a)
 
+-- the point where a scan stands
+abbrev pub here : BresenhamScan → Point
+here s = record { x = s .x; y = s .y }
+
+-- the point where it stands, and the scan one step on; nothing once i has passed d
 unfoldable pub stepOf : BresenhamScan → Stepped
-stepOf s = cond (ltb (s .d) (s .i)) Done (Seen (record { x = s .x; y = s .y }) (nextOf s))
+stepOf s = cond (ltb (s .d) (s .i)) Done (Seen (here s) (nextOf s))
 
 -- what keeps a scan's numbers in range
 pub record Good (s : BresenhamScan) : Type 0 where
