@@ -1,5 +1,5 @@
 -- How large the numbers of a line through two pixels are. Assumes nothing.
-use Prim.Native.Nat.{ℕ, _≤_}
+use Prim.Native.Nat.{_≤_}
 use native.Mathlib.Omega.{arith}
 use lib.IntN.{ℤ, negℤ, natAbs, _-ℤ_}
 use Rattle.points.specs.declared.Point.{Point}

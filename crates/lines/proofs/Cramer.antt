@@ -1,7 +1,7 @@
 -- The equations of two lines: Cramer's numerators over the determinant solve both, and every solution is that fraction. Assumes nothing.
-use mathlib.Core.Path.{_≡_, refl, sym, ap, _∙_}
+use mathlib.Core.Path.{_≡_, refl, sym, _∙_}
 use mathlib.Core.List.{List, [], _∷_}
-use lib.IntN.{ℤ, negℤ, _+ℤ_, _-ℤ_, _*ℤ_}
+use lib.IntN.{ℤ, _+ℤ_, _-ℤ_, _*ℤ_}
 use Rattle.points.specs.declared.Point.{Point}
 use Rattle.sizes.proofs.Algebra.{Term, same-terms, var, ⊝, _⊕_, _⊖_, _⊗_, equal, no-diff}
 use Rattle.lines.specs.declared.Line.{Line}

@@ -1,5 +1,5 @@
 -- What an answer of `line_intersect` means: said of the lines themselves, and not of how their point is found. The source is geometry. Assumes nothing.
-use Prim.Native.Nat.{ℕ, _+_, _*_, _≤_, _<_}
+use Prim.Native.Nat.{_+_, _*_, _≤_, _<_}
 use mathlib.Core.Path.{_≡_}
 use lib.Dec.{T}
 use lib.IntN.{ℤ, natAbs, _-ℤ_, _*ℤ_}

@@ -1,2 +1,4 @@
 pub mod Direction
 pub mod Steps
+pub mod Balance
+pub mod Walk

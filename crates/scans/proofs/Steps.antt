@@ -1,11 +1,11 @@
 -- What a step's answer says, for callers that do not open `stepOf`: a scan stays in range, and comes nearer to its end. Assumes nothing.
 use Prim.Native.Nat.{ℕ, zero, suc, _+_, _-_, _≤_, _<_, zero-le}
 use native.Mathlib.Omega.{arith}
-use borrow.Author.Tests.{ltb-true, ltb-false, leb-true, leb-false}
-use mathlib.Core.Path.{_≡_, refl, ap, sym, subst, _∙_}
+use borrow.Author.Tests.{le-ltb, ltb-true, ltb-false, leb-true, leb-false}
+use mathlib.Core.Path.{_≡_, refl, ap, _∙_}
 use mathlib.Core.Bool.{Bool, true, false, cond}
 use mathlib.Core.Logic.{_⊎_, ⊎-elim, inl, inr}
-use mathlib.Core.List.{List, [], _∷_}
+use mathlib.Core.List.{[], _∷_}
 use lib.Dec.{leb, ltb, lit≤}
 use lib.IntN.{ℤ, pos, natAbs, _+ℤ_, _-ℤ_}
 use Rattle.refusals.specs.Limits.{farthest}
@@ -13,7 +13,6 @@ use Rattle.points.specs.declared.Point.{Point}
 use Rattle.points.specs.Range.{Near}
 use Rattle.sizes.proofs.Size.{size-add, size-sub}
 use Rattle.scans.specs.declared.BresenhamScan.{BresenhamScan}
-use Rattle.scans.specs.declared.Stepped.{Stepped}
 use Rattle.scans.specs.declared.Stepped.the-variants.{Seen, Done}
 use Rattle.scans.specs.Scan.{startOf, scanOf, placedBy, movedBy, nextOf, here, stepOf, Good}
 use Rattle.scans.specs.Points.{after, pointsOf, points}
@@ -127,6 +126,12 @@ next-is s = go (leb (s .d) (s .a + s .n)) (leb-true (s .d) (s .a + s .n)) (leb-f
     go true f g = inl (f refl, moved-is s (s .nonstep) (s .a + s .n - s .d))
     go false f g = inr (g refl, moved-is s (pos 0) (s .a + s .n))
 
+pub next-d : (s : BresenhamScan) → nextOf s .d ≡ s .d
+next-d s = ⊎-elim (λ m. m .1 .d-same) (λ m. m .1 .d-same) (next-is s)
+
+pub next-i : (s : BresenhamScan) → nextOf s .i ≡ s .i + 1
+next-i s = ⊎-elim (λ m. m .1 .i-next) (λ m. m .1 .i-next) (next-is s)
+
 -- ---- what a step answers
 pub record Next (s : BresenhamScan) (p : Point) (t : BresenhamScan) : Type 0 where
   pub more : s .i ≤ s .d
@@ -134,6 +139,10 @@ pub record Next (s : BresenhamScan) (p : Point) (t : BresenhamScan) : Type 0 whe
   pub next : t ≡ nextOf s
   pub d-same : t .d ≡ s .d
   pub i-next : t .i ≡ s .i + 1
+
+pub step-is : (s : BresenhamScan) → s .i ≤ s .d → stepOf s ≡ Seen (here s) (nextOf s)
+unfolding stepOf
+step-is s h = rw (le-ltb (s .d) (s .i) h)
 
 pub step-seen : (s : BresenhamScan) (p : Point) (t : BresenhamScan) → stepOf s ≡ Seen p t → Next s p t
 unfolding stepOf
@@ -145,8 +154,8 @@ step-seen s p t h = go (ltb (s .d) (s .i)) (ltb-false (s .d) (s .i)) h
           more = l;
           seen = ep;
           next = et;
-          d-same = ap (λ (u : BresenhamScan). u .d) et ∙ ⊎-elim (λ m. m .1 .d-same) (λ m. m .1 .d-same) (next-is s);
-          i-next = ap (λ (u : BresenhamScan). u .i) et ∙ ⊎-elim (λ m. m .1 .i-next) (λ m. m .1 .i-next) (next-is s);
+          d-same = ap (λ (u : BresenhamScan). u .d) et ∙ next-d s;
+          i-next = ap (λ (u : BresenhamScan). u .i) et ∙ next-i s;
         }
 
     go : (b : Bool) → (b ≡ false → s .i ≤ s .d) → cond b Done (Seen (here s) (nextOf s)) ≡ Seen p t → Next s p t

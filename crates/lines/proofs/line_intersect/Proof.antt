@@ -1,5 +1,5 @@
 -- `line_intersect` meets its contract: lines through pixels are small. Assumes nothing.
-use Rattle.lines.specs.Meet.{meetOf, Small}
+use Rattle.lines.specs.Meet.{meetOf}
 use Rattle.lines.proofs.Bounds.{line-small}
 use Rattle.lines.proofs.line_intersect.Statement.{statement}
 use Rattle.lines.proofs.line_intersect.Tie as tie

@@ -3,9 +3,9 @@ use borrow.Author.Needs.{needs}
 use native.Mathlib.Omega.{arith}
 use native.Mathlib.Nat.{lt-of-le-of-lt}
 use mathlib.Core.Path.{_≡_, _∙_}
-use Prim.Native.Nat.{ℕ, _≤_}
+use Prim.Native.Nat.{_≤_}
 use lib.Dec.{lit<}
-use lib.IntN.{ℤ, negℤ, natAbs, _-ℤ_}
+use lib.IntN.{negℤ, natAbs, _-ℤ_}
 use mir.Syntax.{w32}
 use mir.Val.{toZ, ofZ}
 use Rattle.sizes.proofs.Size.{products, size-neg, read-back}

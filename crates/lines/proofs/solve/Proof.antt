@@ -4,9 +4,9 @@ use borrow.Author.Tests.{ne-eqb}
 use native.Mathlib.Omega.{arith}
 use native.Mathlib.Nat.{lt-of-le-of-lt}
 use mathlib.Core.Path.{_≡_, _∙_}
-use Prim.Native.Nat.{ℕ, _≤_, _<_}
+use Prim.Native.Nat.{_≤_, _<_}
 use lib.Dec.{lit<}
-use lib.IntN.{ℤ, negℤ, natAbs}
+use lib.IntN.{negℤ, natAbs}
 use lib.Signed.{quotZ}
 use mir.Syntax.{w32}
 use mir.Val.{toZ, ofZ}

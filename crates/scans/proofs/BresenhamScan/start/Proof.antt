@@ -1,12 +1,12 @@
 -- `start` meets its contract: distances of 20,000 and less have a size. Assumes nothing.
 use borrow.Author.Needs.{needs}
 use native.Mathlib.Omega.{arith}
-use mathlib.Core.Path.{_≡_, _∙_}
+use mathlib.Core.Path.{_≡_}
 use mir.Syntax.{w32}
 use mir.Val.{toZ, ofZ}
 use mir.Facts.{toZ-ofZ}
 use Rattle.sizes.proofs.Size.{read-back}
-use Rattle.scans.specs.Scan.{startOf, wayOf}
+use Rattle.scans.specs.Scan.{startOf}
 use Rattle.scans.proofs.BresenhamScan.start.Statement.{statement}
 use Rattle.scans.proofs.BresenhamScan.start.Tie as tie
 
