@@ -1,8 +1,11 @@
--- Chains: both ends are of the set, they go back, go on, and stay in a larger set. Assumes nothing.
-use mathlib.Core.Path.{_≡_, refl, sym, ap, _∙_, subst}
-use Prim.Native.Nat.{ℕ, zero, suc, _<_}
+-- Chains: both ends are of the set, they go back, go on, run along a line, and stay in a larger set. Assumes nothing.
+use Prim.Native.Nat.{ℕ, zero, suc, _≤_}
+use native.Mathlib.Omega.{arith}
+use mathlib.Core.Path.{_≡_, sym, subst}
+use mathlib.Core.Logic.{⊎-elim}
 use Rattle.pieces.specs.Chain.{Chain, start, west, east, north, south}
 use Rattle.pieces.specs.Piece.{Pixels}
+use Rattle.pieces.proofs.Numbers.{same}
 use Rattle.pieces.proofs.Counting.{number-over}
 
 module _ {S : ℕ → ℕ → Type 0} {x y : ℕ} where
@@ -26,6 +29,23 @@ module _ {S : ℕ → ℕ → Type 0} {x y : ℕ} where
   go-on j (east c s) = east (go-on j c) s
   go-on j (north c s) = north (go-on j c) s
   go-on j (south c s) = south (go-on j c) s
+
+  -- along a line of the set, to the left and to the right
+  pub go-left : (a l b : ℕ) → l ≤ a → Chain S x y a b → ((k : ℕ) → l ≤ k → k ≤ a → S k b) → Chain S x y l b
+  go-left zero l b le c g = subst (λ (k : ℕ). Chain S x y k b) (omega arith) c
+  go-left (suc a) l b le c g =
+      ⊎-elim
+      (λ e. subst (λ (k : ℕ). Chain S x y k b) (sym e) c)
+      (λ n. go-left a l b (omega arith) (west c (g a (omega arith) (omega arith))) (λ k u v. g k u (omega arith)))
+      (same l (suc a))
+
+  pub go-right : (r a b : ℕ) → a ≤ r → Chain S x y a b → ((k : ℕ) → a ≤ k → k ≤ r → S k b) → Chain S x y r b
+  go-right zero a b le c g = subst (λ (k : ℕ). Chain S x y k b) (omega arith) c
+  go-right (suc r) a b le c g =
+      ⊎-elim
+      (λ e. subst (λ (k : ℕ). Chain S x y k b) e c)
+      (λ n. east (go-right r a b (omega arith) c (λ k u v. g k u (omega arith))) (g (suc r) (omega arith) (omega arith)))
+      (same a (suc r))
 
 pub go-back : {S : ℕ → ℕ → Type 0} {x y a b : ℕ} → Chain S x y a b → Chain S a b x y
 go-back (start s) = start s

@@ -1,4 +1,4 @@
--- Rows of a piece: two that share a pixel are one; and the pairs of overlapping rows are fewer than the picture's pixels. Assumes nothing.
+-- Rows: two that share a pixel are one, a row reaches as far as its set does, and the pairs that overlap are fewer than the picture's pixels. Assumes nothing.
 use Prim.Native.Nat.{ℕ, suc, _+_, _*_, _-_, _<_, _≤_, max}
 use native.Mathlib.Nat.{mul-comm, suc-mul}
 use native.Mathlib.Omega.{arith}
@@ -8,12 +8,14 @@ use mathlib.Core.Logic.{_⊎_, inl, inr, ⊎-elim}
 use lib.ListN.{length}
 use Rattle.pieces.specs.Picture.{Pixel, pixel}
 use Rattle.pieces.specs.Count.{Mem, Distinct}
+use Rattle.pieces.specs.Chain.{Chain, west, east}
 use Rattle.pieces.specs.Piece.{Piece}
-use Rattle.pieces.specs.Row.{Row, RowOf, InRow}
+use Rattle.pieces.specs.Row.{RowOf, InRow}
+use Rattle.pieces.specs.declared.Row.{Row}
 use Rattle.pieces.specs.Pairs.{RowPair, Overlap, Pushes, Room}
 use Rattle.pieces.proofs.Numbers.{split}
 use Rattle.pieces.proofs.Counting.{map-mem, map-length, map-distinct}
-use Rattle.pieces.proofs.Chains.{last-of}
+use Rattle.pieces.proofs.Chains.{last-of, go-right}
 use Rattle.pieces.proofs.Index.{pixels-below}
 
 module _ {S : ℕ → ℕ → Type 0} where
@@ -39,6 +41,42 @@ module _ {S : ℕ → ℕ → Type 0} where
       let left : r .left ≡ s .left = omega (arith, no-later R Q line a (h .1) (g .2), no-later Q R (sym line) a (g .1) (h .2)) in
       let right : r .right ≡ s .right = omega (arith, no-earlier R Q line a (g .1) (h .2), no-earlier Q R (sym line) a (h .1) (g .2)) in
       λ i. record { left = left i; right = right i; y = line i }
+
+  -- a pixel that is joined along the line to one of the row is in the row
+  pub row-reaches : {r : Row} → RowOf S r → (a b c : ℕ) → InRow r a b → ((k : ℕ) → a ≤ k → k ≤ c → S k b) → ((k : ℕ) → c ≤ k → k ≤ a → S k b) → InRow r c b
+  row-reaches {r} R a b c q on back =
+      let line : (k : ℕ) → S k b → S k (r .y) = λ k s. subst (λ (v : ℕ). S k v) (sym (q .0)) s in
+      let low : r .left ≤ c =
+      ⊎-elim
+      (λ g. g)
+      (λ g. absurd (R .before (r .left - 1) (omega arith) (line (r .left - 1) (back (r .left - 1) (omega arith) (omega (arith, q .1))))))
+      (split (r .left) c) in
+      let high : c ≤ r .right =
+      ⊎-elim
+      (λ g. g)
+      (λ g. absurd (R .after (line (suc (r .right)) (on (suc (r .right)) (omega (arith, q .2)) (omega arith)))))
+      (split c (r .right)) in
+      (q .0, low, high)
+
+-- a row of the pixels that chains of S reach is a row of S, and a row of S that a chain reaches is one of those
+module _ {S : ℕ → ℕ → Type 0} {x y : ℕ} {r : Row} where
+  pub row-of-set : RowOf (Chain S x y) r → RowOf S r
+  row-of-set R =
+      record {
+        order = R .order;
+        all = λ k u v. last-of (R .all k u v);
+        before = λ k e s. R .before k e (west (subst (λ (v : ℕ). Chain S x y v (r .y)) (sym e) (R .all (r .left) (omega arith) (R .order))) s);
+        after = λ s. R .after (east (R .all (r .right) (R .order) (omega arith)) s);
+      }
+
+  pub row-of-chain : RowOf S r → Chain S x y (r .left) (r .y) → RowOf (Chain S x y) r
+  row-of-chain R c =
+      record {
+        order = R .order;
+        all = λ k u v. go-right k (r .left) (r .y) u c (λ j a b. R .all j a (omega arith));
+        before = λ k e d. R .before k e (last-of d);
+        after = λ d. R .after (last-of d);
+      }
 
 -- the first column in which a pair overlaps, on the upper line
 pub jointOf : RowPair → Pixel

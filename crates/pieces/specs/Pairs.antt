@@ -2,7 +2,8 @@
 use Prim.Native.Nat.{ℕ, suc, _+_, _≤_}
 use mathlib.Core.Path.{_≡_}
 use Rattle.pieces.specs.Count.{Number}
-use Rattle.pieces.specs.Row.{Row, RowOf, InRow}
+use Rattle.pieces.specs.Row.{RowOf, InRow}
+use Rattle.pieces.specs.declared.Row.{Row}
 
 pub record RowPair : Type 0 where
   pub upper : Row

@@ -2,12 +2,7 @@
 use Prim.Native.Nat.{ℕ, suc, _≤_}
 use mathlib.Core.Path.{_≡_}
 use Rattle.pieces.specs.Count.{Number}
-
--- the columns left to right of the line y, both ends included
-pub record Row : Type 0 where
-  pub left : ℕ
-  pub right : ℕ
-  pub y : ℕ
+use Rattle.pieces.specs.declared.Row.{Row}
 
 abbrev pub row : ℕ → ℕ → ℕ → Row
 row l r y = record { left = l; right = r; y = y }

@@ -1,0 +1,17 @@
+pub mod Painted
+pub mod Ends
+pub mod RowAt
+pub mod Scan
+pub mod Lines
+pub mod Underway
+pub mod Turns
+pub mod Joints
+pub mod Tally
+pub mod Whole
+pub mod Entries
+pub mod Stepping
+pub mod Measure
+pub mod Filling
+pub mod Folding
+pub mod Counting
+pub mod Laws

@@ -1,0 +1,105 @@
+-- `paint_and_count` paints its piece and counts as it goes: each need is a law of Counting. Assumes nothing.
+use Prim.Native.Nat.{_+_, _-_, _*_, _<_, _≤_}
+use native.Mathlib.Omega.{arith}
+use mathlib.Core.Path.{_≡_, refl, sym, _∙_}
+use borrow.Author.Needs.{needs}
+use lib.ListN.{length}
+use Rattle.fill.proofs.Filling.{taskOf, room-some, filling-asks, filling-less, end-paints}
+use Rattle.fill.proofs.Folding.{steps-as}
+use Rattle.fill.proofs.Measure.{toDo}
+use Rattle.fill.proofs.Counting.{Counting, counting-begun, pushes-low, met-kept, met-in, counting-met, counting-passed, counting-end}
+use Rattle.fill.proofs.paint.paint_and_count.Statement.{statement}
+use Rattle.fill.proofs.paint.paint_and_count.Tie as tie
+
+abbrev Inv-loop : tie.InvT-loop
+Inv-loop pic₀ w h stack₀ x y to from sp₀ rows₀ pixels₀ pushes₀ pic stack sp rows pixels pushes =
+    Counting (taskOf pic₀ w h x y to) (length stack₀) from pic stack sp rows pixels pushes
+
+abbrev μ-loop : tie.MeasureT-loop
+μ-loop pic₀ w h stack₀ x y to from sp₀ rows₀ pixels₀ pushes₀ pic stack sp rows pixels pushes = toDo from pic sp
+
+seed-requires : tie.Need-seed-requires Inv-loop μ-loop
+seed-requires c κs = let s = c .before .before .before .before in (s .pre .sized, s .pre .in-x, s .pre .in-y, room-some (s .pre))
+
+loop-holds : tie.Need-loop-holds Inv-loop μ-loop
+loop-holds c = let q = c .before .before .seed in counting-begun (c .before .before .before .before .before .before .before .pre) (q .ensures .0) (search needs) (q .ensures .1)
+
+sub-at : tie.Need-sub-at Inv-loop μ-loop
+sub-at c = search needs
+
+fill-step-requires : tie.Need-fill-step-requires Inv-loop μ-loop
+fill-step-requires c κs = filling-asks (c .before .before .before .loop .inv .filling) (c .before .before .loop-test .taken)
+
+enum-known-r : tie.Need-enum-known-r Inv-loop μ-loop
+enum-known-r c = search needs
+
+add-rows : tie.Need-add-rows Inv-loop μ-loop
+add-rows c = let l = c .before .before .before .before .before .before .before .before .before .before .before .loop in omega (arith, l .inv .rows-few, pushes-low (l .inv))
+
+sub-pixels : tie.Need-sub-pixels Inv-loop μ-loop
+sub-pixels c = met-in (c .before .before .before .before .before .before .before .before .before .before .before .before .loop .inv) (c .before .before .before .before .before .before .before .before .before .before .before .loop-test .taken) (c .before .before .before .before .before .before .before .before .fill-step .ensures) (c .before .before .r .given .1) (search needs) (search needs) .0
+
+add-pixels : tie.Need-add-pixels Inv-loop μ-loop
+add-pixels c = let m = met-in (c .before .before .before .before .before .before .before .before .before .before .before .before .loop .inv) (c .before .before .before .before .before .before .before .before .before .before .before .loop-test .taken) (c .before .before .before .before .before .before .before .before .fill-step .ensures) (c .before .before .r .given .1) (search needs) (search needs) in omega (arith, m .0, m .1, c .before .before .before .before .before .before .before .before .before .before .before .before .loop .inv .filling .wide)
+
+add-pixels-2 : tie.Need-add-pixels-2 Inv-loop μ-loop
+add-pixels-2 c =
+    let m = met-in (c .before .before .before .before .before .before .before .before .before .before .before .before .loop .inv) (c .before .before .before .before .before .before .before .before .before .before .before .loop-test .taken) (c .before .before .before .before .before .before .before .before .fill-step .ensures) (c .before .before .r .given .1) (search needs) (search needs) in
+    let l = c .before .before .before .before .before .before .before .before .before .before .before .before .loop in
+    omega (arith, m .0, m .1, l .inv .filling .wide, l .inv .pixels-few, pushes-low (l .inv))
+
+sub-pushes : tie.Need-sub-pushes Inv-loop μ-loop
+sub-pushes c = met-kept (c .before .before .before .before .before .before .before .before .before .before .before .before .loop .inv) (c .before .before .before .before .before .before .before .before .before .before .before .loop-test .taken) (c .before .before .before .before .before .before .before .before .fill-step .ensures) (c .before .before .r .given .1)
+
+add-pushes : tie.Need-add-pushes Inv-loop μ-loop
+add-pushes c = omega (arith, pushes-low (counting-met (c .before .before .before .before .before .before .before .before .before .before .before .before .loop .inv) (c .before .before .before .before .before .before .before .before .before .before .before .loop-test .taken) (c .before .before .before .before .before .before .before .before .fill-step .ensures) (c .before .before .r .given .1) (search needs) (search needs)))
+
+loop-less : tie.Need-loop-less Inv-loop μ-loop
+loop-less c = filling-less (c .before .before .before .before .before .before .before .before .before .before .before .before .loop .inv .filling) (c .before .before .before .before .before .before .before .before .before .before .before .loop-test .taken) (steps-as (c .before .before .r .given .1) (c .before .before .before .before .before .before .before .before .fill-step .ensures))
+
+loop-again : tie.Need-loop-again Inv-loop μ-loop
+loop-again c = counting-met (c .before .before .before .before .before .before .before .before .before .before .before .before .loop .inv) (c .before .before .before .before .before .before .before .before .before .before .before .loop-test .taken) (c .before .before .before .before .before .before .before .before .fill-step .ensures) (c .before .before .r .given .1) (search needs) (search needs)
+
+enum-known-top : tie.Need-enum-known-top Inv-loop μ-loop
+enum-known-top c = search needs
+
+loop-less-2 : tie.Need-loop-less-2 Inv-loop μ-loop
+loop-less-2 c = filling-less (c .before .before .before .before .before .before .before .before .before .before .before .loop .inv .filling) (c .before .before .before .before .before .before .before .before .before .before .loop-test .taken) (steps-as (c .before .top .given .1) (c .before .before .before .before .before .before .before .fill-step .ensures))
+
+loop-again-2 : tie.Need-loop-again-2 Inv-loop μ-loop
+loop-again-2 c = counting-passed (c .before .before .before .before .before .before .before .before .before .before .before .loop .inv) (c .before .before .before .before .before .before .before .before .before .before .loop-test .taken) (c .before .before .before .before .before .before .before .fill-step .ensures) (c .before .top .given .1) (search needs) (search needs)
+
+same-length : tie.Need-same-length Inv-loop μ-loop
+same-length c = search needs
+
+same-length-2 : tie.Need-same-length-2 Inv-loop μ-loop
+same-length-2 c = search needs
+
+returns : tie.Need-returns Inv-loop μ-loop
+returns c = let l = c .before .loop in (end-paints (l .inv .filling) (omega arith), counting-end (l .inv) (omega arith) _ refl refl refl)
+
+pub paint-and-count-spec : {M : Type 1} → statement M
+paint-and-count-spec =
+    tie.close
+    (tie.spec
+    Inv-loop
+    μ-loop
+    seed-requires
+    loop-holds
+    sub-at
+    fill-step-requires
+    enum-known-r
+    add-rows
+    sub-pixels
+    add-pixels
+    add-pixels-2
+    sub-pushes
+    add-pushes
+    loop-less
+    loop-again
+    enum-known-top
+    loop-less-2
+    loop-again-2
+    same-length
+    same-length-2
+    returns)

@@ -1,0 +1,63 @@
+use mathlib.Core.Path.{_≡_, refl, sym, ap, _∙_, subst}
+use mathlib.Core.List.{List, [], _∷_}
+use mathlib.Core.Bool.{Bool, true, false}
+use Prim.Native.Nat.{ℕ, zero, suc, _≤_, _<_, _-_, _+_, _*_}
+use native.Mathlib.Omega.{arith}
+use borrow.Author.Needs.{needs}
+use lib.ListN.{length, getD, set, length-set}
+use Rattle.fill.specs.Order.{paintRun}
+use Rattle.fill.proofs.Painted.{paint-none, paint-more}
+use Rattle.fill.proofs.runs.paint_run.Statement.{statement}
+use Rattle.fill.proofs.runs.paint_run.Tie as tie
+
+abbrev Inv-loop : tie.InvT-loop
+Inv-loop pic₀ at n to k₀ pic k = (pic ≡ paintRun pic₀ at k to) × (k ≤ n) × (length pic ≡ length pic₀)
+
+abbrev μ-loop : tie.MeasureT-loop
+μ-loop pic₀ at n to k₀ pic k = n - k
+
+loop-holds : tie.Need-loop-holds Inv-loop μ-loop
+loop-holds c = (paint-none (c .args .pic .now) (c .args .at) (c .args .to), omega arith, refl)
+
+add-pic : tie.Need-add-pic Inv-loop μ-loop
+add-pic c = omega arith
+
+slice-write-pic : tie.Need-slice-write-pic Inv-loop μ-loop
+slice-write-pic c = omega arith
+
+add-k : tie.Need-add-k Inv-loop μ-loop
+add-k c = omega arith
+
+loop-less : tie.Need-loop-less Inv-loop μ-loop
+loop-less c = omega arith
+
+loop-again : tie.Need-loop-again Inv-loop μ-loop
+loop-again c =
+    let s = c .before .before in
+    let l = c .before .loop in
+    (ap (λ (p : List ℕ). set p (s .args .at + l .k) (s .args .to)) (l .inv .0) ∙ paint-more (s .args .pic .now) (s .args .at) (l .k) (s .args .to), omega arith, simp length-set (l .inv .2))
+
+same-length : tie.Need-same-length Inv-loop μ-loop
+same-length c = omega arith
+
+returns : tie.Need-returns Inv-loop μ-loop
+returns c =
+    let s = c .before .before in
+    let l = c .before .loop in
+    let z : l .k ≡ s .args .n = omega arith in
+    l .inv .0 ∙ ap (λ (k : ℕ). paintRun (s .args .pic .now) (s .args .at) k (s .args .to)) z
+
+pub paint-run-spec : {M : Type 1} → statement M
+paint-run-spec =
+    tie.close
+    (tie.spec
+    Inv-loop
+    μ-loop
+    loop-holds
+    add-pic
+    slice-write-pic
+    add-k
+    loop-less
+    loop-again
+    same-length
+    returns)

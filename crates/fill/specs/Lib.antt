@@ -1,0 +1,4 @@
+pub mod Order
+pub mod Stack
+pub mod Fill
+pub mod Fold

@@ -1,0 +1,48 @@
+// The row that holds a pixel: its two ends, and its paint.
+ghost use mathlib.Core.Path.{_≡_};
+ghost use Prim.Native.Nat.{_+_, _*_, _-_, _<_, _≤_};
+ghost use Rattle.fill.specs.Order.{leftEnd, rightEnd, paintRun};
+
+// The leftmost column that is reached from x over bytes `from`, on the line y, which starts at base.
+pub fn leftmost(pic: &[u8], w: usize, y: usize, base: usize, x: usize, from: u8) -> usize
+    requires { do ⌜ (base ≡ y * w) × (base + x < (← ⟦pic.len()⟧)) ⌝ }
+    ensures { λ r. ⌜ r ≡ leftEnd (now (pic .entry)) w from y x ⌝ }
+{
+    let mut left = x;
+    while left > 0 {
+        let k = left - 1;
+        if pic[base + k] != from {
+            return left;
+        }
+        left = k;
+    }
+    left
+}
+
+// The rightmost.
+pub fn rightmost(pic: &[u8], w: usize, y: usize, base: usize, x: usize, from: u8) -> usize
+    requires { do ⌜ (base ≡ y * w) × (x < w) × (base + w ≤ (← ⟦pic.len()⟧)) ⌝ }
+    ensures { λ r. ⌜ r ≡ rightEnd (now (pic .entry)) w from y x (w - 1 - x) ⌝ }
+{
+    let mut right = x;
+    while right < w - 1 {
+        let k = right + 1;
+        if pic[base + k] != from {
+            return right;
+        }
+        right = k;
+    }
+    right
+}
+
+// Paints n bytes from `at` on.
+pub fn paint_run(pic: &mut [u8], at: usize, n: usize, to: u8)
+    requires { do ⌜ at + n ≤ (← ⟦pic.len()⟧) ⌝ }
+    ensures { λ _. ⌜ now (pic .exit) ≡ paintRun (now (pic .entry)) at n to ⌝ }
+{
+    let mut k = 0;
+    while k < n {
+        pic[at + k] = to;
+        k += 1;
+    }
+}
