@@ -3,3 +3,4 @@ pub mod Denominators
 pub mod Whole
 pub mod Pixels
 pub mod Origin
+pub mod Corners

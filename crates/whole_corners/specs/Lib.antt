@@ -1,3 +1,4 @@
 pub mod Formulas
 pub mod Frame
 pub mod Outcome
+pub mod Taken
