@@ -19,9 +19,9 @@ use Rattle.scans.specs.Points.{after, pointsOf, points}
 use Rattle.scans.proofs.Direction.{way-low}
 
 -- ---- a scan stays in range
-start-good : (p : Point) (lead side : ℤ) (across : Bool) → Near p → natAbs lead ≤ farthest + farthest → natAbs side ≤ natAbs lead → Good (startOf p lead side across)
+start-good : (p : Point) (lead side : ℤ) (xleads : Bool) → Near p → natAbs lead ≤ farthest + farthest → natAbs side ≤ natAbs lead → Good (startOf p lead side xleads)
 unfolding startOf
-start-good p lead side across f g h =
+start-good p lead side xleads f g h =
     record {
       d-low = g;
       n-low = h;
@@ -82,10 +82,10 @@ module _ (s : BresenhamScan) (g : Good s) (more : s .i ≤ s .d) where
 
 -- ---- what a move changes, whichever direction leads
 abbrev pub leadOf : Bool → Point → ℤ
-leadOf across p = cond across (p .x) (p .y)
+leadOf xleads p = cond xleads (p .x) (p .y)
 
 abbrev pub sideOf : Bool → Point → ℤ
-sideOf across p = cond across (p .y) (p .x)
+sideOf xleads p = cond xleads (p .y) (p .x)
 
 -- t is s, one on in the leading direction and `off` in the other, with `left` gathered
 pub record Moved (s : BresenhamScan) (off : ℤ) (left : ℕ) (t : BresenhamScan) : Type 0 where

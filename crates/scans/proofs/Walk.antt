@@ -1,5 +1,5 @@
 -- The points of a scan are a walk: as many as the longer distance and one, from one end to the other, step by step. Assumes nothing.
-use Prim.Native.Nat.{ℕ, zero, suc, _+_, _-_, _≤_, _<_}
+use Prim.Native.Nat.{ℕ, zero, suc, _+_, _-_, _≤_, _<_, max}
 use native.Mathlib.Omega.{arith}
 use borrow.Author.Tests.{ltb-true, ltb-false}
 use mathlib.Core.Path.{_≡_, refl, ap, sym, subst, _∙_}
@@ -7,7 +7,7 @@ use mathlib.Core.Bool.{Bool, true, false, cond}
 use mathlib.Core.List.{List, [], _∷_, _++_}
 use lib.Dec.{ltb}
 use lib.ListN.{length, length-append}
-use lib.IntN.{ℤ, natAbs, _+ℤ_, _-ℤ_}
+use lib.IntN.{ℤ, natAbs, _+ℤ_, _-ℤ_, +ℤ-invr}
 use Rattle.points.specs.declared.Point.{Point}
 use Rattle.sizes.proofs.Algebra.{same-terms, var, _⊕_, _⊖_}
 use Rattle.scans.specs.declared.BresenhamScan.{BresenhamScan}
@@ -19,9 +19,9 @@ use Rattle.scans.proofs.Balance.{Balance, start-balance, next-balance, 
 
 -- one step by the distances that are to go
 abbrev Onward : ℤ → ℤ → Bool → Point → Point → Type 0
-Onward lead side across u v = One lead (leadOf across u) (leadOf across v) × AtMostOne side (sideOf across u) (sideOf across v)
+Onward lead side xleads u v = One lead (leadOf xleads u) (leadOf xleads v) × AtMostOne side (sideOf xleads u) (sideOf xleads v)
 
-same-point : (across : Bool) {u v : Point} → leadOf across u ≡ leadOf across v → sideOf across u ≡ sideOf across v → u ≡ v
+same-point : (xleads : Bool) {u v : Point} → leadOf xleads u ≡ leadOf xleads v → sideOf xleads u ≡ sideOf xleads v → u ≡ v
 same-point true e f = λ i. record { x = e i; y = f i }
 same-point false e f = λ i. record { x = f i; y = e i }
 
@@ -63,23 +63,23 @@ module _ (e : Point) (Step : Point → Point → Type 0) where
       onward [] back x y q = first-two x y back q
       onward (f ∷ front) back x y q = t .steps front back x y (cc)
 
-module _ (p e : Point) (lead side : ℤ) (across : Bool) (el : leadOf across e ≡ leadOf across p +ℤ lead) (es : sideOf across e ≡ sideOf across p +ℤ side) where
-  part : (r : ℕ) (s : BresenhamScan) (k : ℕ) → Balance p lead side across s k → s .i + r ≡ s .d → Part e (Onward lead side across) (here s) r (pointsOf (suc r) s)
+module _ (p e : Point) (lead side : ℤ) (xleads : Bool) (el : leadOf xleads e ≡ leadOf xleads p +ℤ lead) (es : sideOf xleads e ≡ sideOf xleads p +ℤ side) where
+  part : (r : ℕ) (s : BresenhamScan) (k : ℕ) → Balance p lead side xleads s k → s .i + r ≡ s .d → Part e (Onward lead side xleads) (here s) r (pointsOf (suc r) s)
   unfolding pointsOf after
   part zero s k b h =
       let i : s .i ≡ s .d = omega arith in
-      let q = at-end p lead side across s k b i in
-      rw (step-is s (omega arith)) (alone e (Onward lead side across) (here s) (same-point across (q .0 ∙ sym el) (q .1 ∙ sym es)))
+      let q = at-end p lead side xleads s k b i in
+      rw (step-is s (omega arith)) (alone e (Onward lead side xleads) (here s) (same-point xleads (q .0 ∙ sym el) (q .1 ∙ sym es)))
   part (suc r) s k b h =
-      let n = next-balance p lead side across s k b in
+      let n = next-balance p lead side xleads s k b in
       rw (step-is s (omega arith))
-      (before e (Onward lead side across) (here s) (here (nextOf s)) r (pointsOf (suc r) (nextOf s)) (next-step p lead side across s k b (omega arith)) (part r (nextOf s) (n .0) (n .1) (let d = next-d s in let i = next-i s in omega arith)))
+      (before e (Onward lead side xleads) (here s) (here (nextOf s)) r (pointsOf (suc r) (nextOf s)) (next-step p lead side xleads s k b (omega arith)) (part r (nextOf s) (n .0) (n .1) (let d = next-d s in let i = next-i s in omega arith)))
 
-  whole : natAbs side ≤ natAbs lead → Part e (Onward lead side across) p (natAbs lead) (points (startOf p lead side across))
+  whole : natAbs side ≤ natAbs lead → Part e (Onward lead side xleads) p (natAbs lead) (points (startOf p lead side xleads))
   unfolding points startOf
   whole h =
       let e : natAbs lead + 1 - 0 ≡ suc (natAbs lead) = omega arith in
-      rw e (part (natAbs lead) (startOf p lead side across) 0 (start-balance p lead side across h) (omega arith))
+      rw e (part (natAbs lead) (startOf p lead side xleads) 0 (start-balance p lead side xleads h) (omega arith))
 
 -- ---- the law
 clash : {m n : ℕ} → m < n → n ≤ m → ⊥
@@ -117,3 +117,16 @@ scan-walks p q = go (ltb (natAbs down) (natAbs across)) (ltb-true (natAbs down) 
           last = w .last;
           steps = λ front back u v h. record { x-leads = λ k. absurd (clash k l); y-leads = λ k. w .steps front back u v h };
         }
+
+-- between equal ends there is one point
+pub scan-still : (p : Point) → points (scanOf p p) ≡ p ∷ []
+scan-still p =
+    let w = scan-walks p p in
+    w .first .1 ∙ ap (λ (l : List Point). p ∷ l) (empty (w .first .0) (none (w .count) (w .first .1)))
+  where
+    empty : (l : List Point) → length l ≡ 0 → l ≡ []
+    empty [] h = refl
+    empty (u ∷ l) h = let z : ⊥ = omega arith in absurd z
+
+    none : {us rest : List Point} → length us ≡ max (natAbs (p .x -ℤ p .x)) (natAbs (p .y -ℤ p .y)) + 1 → us ≡ p ∷ rest → length rest ≡ 0
+    none c e = let l = ap length e in let x = ap natAbs (+ℤ-invr (p .x)) in let y = ap natAbs (+ℤ-invr (p .y)) in omega arith

@@ -16,7 +16,7 @@ wayOf (negsuc n) = negsuc 0
 
 -- at p, with `lead` to go in the leading direction, which is x's or not, and `side` in the other
 unfoldable pub startOf : Point → ℤ → ℤ → Bool → BresenhamScan
-startOf p lead side across =
+startOf p lead side xleads =
     record {
       x = p .x;
       y = p .y;
@@ -26,7 +26,7 @@ startOf p lead side across =
       d = natAbs lead;
       n = natAbs side;
       a = natAbs side;
-      xdom = across;
+      xdom = xleads;
     }
 
 -- from p to q: x leads only where its distance is the larger

@@ -60,9 +60,9 @@ impl BresenhamScan {
     }
 
     // The scan that has `lead` to go in the leading direction and `side` in the other.
-    fn start(from: Point, lead: i32, side: i32, across: bool) -> Self
+    fn start(from: Point, lead: i32, side: i32, xleads: bool) -> Self
         requires { ⌜ natAbs lead ≤ 20000 ⌝ ∗ ⌜ natAbs side ≤ 20000 ⌝ }
-        ensures { λ r. ⌜ r ≡ startOf from lead side across ⌝ }
+        ensures { λ r. ⌜ r ≡ startOf from lead side xleads ⌝ }
     {
         let far = unsigned_abs(lead);
         let near = unsigned_abs(side);
@@ -77,7 +77,7 @@ impl BresenhamScan {
             d: far,
             n: near,
             a: near,
-            xdom: across,
+            xdom: xleads,
         }
     }
 
