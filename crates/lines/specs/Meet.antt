@@ -1,9 +1,10 @@
 -- Where two lines meet, as geometry.rs computes it. Assumes nothing.
-use Prim.Native.Nat.{_≤_}
+use Prim.Native.Nat.{ℕ, _+_, _*_, _≤_}
 use mathlib.Core.Bool.{cond}
 use lib.Dec.{eqb}
 use lib.IntN.{ℤ, negℤ, natAbs, _+ℤ_, _-ℤ_, _*ℤ_}
 use lib.Signed.{quotZ}
+use Rattle.refusals.specs.Limits.{longestSide}
 use Rattle.points.specs.declared.Point.{Point}
 use Rattle.lines.specs.declared.Line.{Line}
 use Rattle.lines.specs.declared.Meet.{Meet}
@@ -35,8 +36,12 @@ crossing l m =
 unfoldable pub meetOf : Point → Point → Point → Point → Meet
 meetOf p0 p1 q0 q1 = crossing (lineOf p0 p1) (lineOf q0 q1)
 
--- a line through two pixels: what keeps each number of the solution an `i32`
+-- two products of coordinates of a picture, and their sum
+abbrev pub largestSum : ℕ
+largestSum = longestSide * longestSide + longestSide * longestSide
+
+-- the numbers of a line through two pixels: what keeps each number of the solution an `i32`
 pub record Small (l : Line) : Type 0 where
-  pub a-low : natAbs (l .a) ≤ 799
-  pub b-low : natAbs (l .b) ≤ 799
-  pub e-low : natAbs (l .e) ≤ 1276802
+  pub a-low : natAbs (l .a) ≤ longestSide
+  pub b-low : natAbs (l .b) ≤ longestSide
+  pub e-low : natAbs (l .e) ≤ largestSum

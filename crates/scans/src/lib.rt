@@ -3,8 +3,9 @@ use sizes::diff;
 use sizes::sum;
 use sizes::unsigned_abs;
 ghost use mathlib.Core.Path.{_≡_};
-ghost use Prim.Native.Nat.{_≤_, _<_};
+ghost use Prim.Native.Nat.{_+_, _≤_};
 ghost use lib.IntN.{natAbs};
+ghost use Rattle.refusals.specs.Limits.{farthest};
 ghost use Rattle.points.specs.Range.{Near};
 ghost use Rattle.scans.specs.Scan.{wayOf, startOf, scanOf, placedBy, movedBy, nextOf, stepOf, Good};
 
@@ -61,7 +62,7 @@ impl BresenhamScan {
 
     // The scan that has `lead` to go in the leading direction and `side` in the other.
     fn start(from: Point, lead: i32, side: i32, xleads: bool) -> Self
-        requires { ⌜ natAbs lead ≤ 20000 ⌝ ∗ ⌜ natAbs side ≤ 20000 ⌝ }
+        requires { ⌜ natAbs lead ≤ farthest + farthest ⌝ ∗ ⌜ natAbs side ≤ farthest + farthest ⌝ }
         ensures { λ r. ⌜ r ≡ startOf from lead side xleads ⌝ }
     {
         let far = unsigned_abs(lead);

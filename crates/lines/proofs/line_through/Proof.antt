@@ -8,6 +8,7 @@ use lib.Dec.{lit<}
 use lib.IntN.{negℤ, natAbs, _-ℤ_}
 use mir.Syntax.{w32}
 use mir.Val.{toZ, ofZ}
+use Rattle.refusals.specs.Limits.{longestSide}
 use Rattle.sizes.proofs.Size.{products, size-neg, read-back}
 use Rattle.lines.specs.Meet.{lineOf}
 use Rattle.lines.proofs.Bounds.{inside-low, diff-low}
@@ -42,7 +43,7 @@ module _ (c : tie.After-diff) where
   dy-is : toZ w32 (ofZ w32 (c .diff .result)) ≡ start-y .args .q .y -ℤ start-y .args .p .y
   dy-is = read-back (c .diff .result) (c .diff .ok) ∙ rw (qy start-y, py start-y) at (c .diff .ensures)
 
-  dy-low : natAbs (start-y .args .q .y -ℤ start-y .args .p .y) ≤ 799
+  dy-low : natAbs (start-y .args .q .y -ℤ start-y .args .p .y) ≤ longestSide
   dy-low = diff-low _ _ (start-y .pre .1 .y) (start-y .pre .0 .y)
 
 opposite-requires : tie.Need-opposite-requires
@@ -52,7 +53,7 @@ module _ (c : tie.After-opposite) where
   a-is : toZ w32 (ofZ w32 (c .opposite .result)) ≡ negℤ (start-y (c .before) .args .q .y -ℤ start-y (c .before) .args .p .y)
   a-is = read-back (c .opposite .result) (c .opposite .ok) ∙ rw (dy-is (c .before)) at (c .opposite .ensures)
 
-  a-low : natAbs (negℤ (start-y (c .before) .args .q .y -ℤ start-y (c .before) .args .p .y)) ≤ 799
+  a-low : natAbs (negℤ (start-y (c .before) .args .q .y -ℤ start-y (c .before) .args .p .y)) ≤ longestSide
   a-low = rw (size-neg (start-y (c .before) .args .q .y -ℤ start-y (c .before) .args .p .y)) (dy-low (c .before))
 
 diff-requires-2 : tie.Need-diff-requires-2
@@ -73,7 +74,7 @@ dot-requires : tie.Need-dot-requires
 dot-requires c κs =
     let s = start-x c in
     rw (a-is (c .before .before), b-is c, qx s, qy s)
-    (lt-of-le-of-lt (products 799 799 799 799 (a-low (c .before .before)) (inside-low _ (s .pre .1 .x)) (diff-low _ _ (s .pre .1 .x) (s .pre .0 .x)) (inside-low _ (s .pre .1 .y))) (lit< tt))
+    (lt-of-le-of-lt (products longestSide longestSide longestSide longestSide (a-low (c .before .before)) (inside-low _ (s .pre .1 .x)) (diff-low _ _ (s .pre .1 .x) (s .pre .0 .x)) (inside-low _ (s .pre .1 .y))) (lit< tt))
 
 returns : tie.Need-returns
 unfolding lineOf

@@ -10,9 +10,10 @@ use lib.IntN.{negℤ, natAbs}
 use lib.Signed.{quotZ}
 use mir.Syntax.{w32}
 use mir.Val.{toZ, ofZ}
+use Rattle.refusals.specs.Limits.{longestSide}
 use Rattle.sizes.proofs.Size.{products, size-dot, size-cross, size-neg, bits-zero, bits-not, read-back}
 use Rattle.lines.specs.declared.Line.{Line}
-use Rattle.lines.specs.Meet.{crossing, det, numX, numY}
+use Rattle.lines.specs.Meet.{crossing, det, largestSum, numX, numY}
 use Rattle.lines.proofs.solve.Statement.{statement}
 use Rattle.lines.proofs.solve.Tie as tie
 
@@ -51,7 +52,7 @@ cross-requires t κs =
     let h = s .pre .0 in
     let k = s .pre .1 in
     rw (a s, d s, b s, c s)
-    (lt-of-le-of-lt (products 799 799 799 799 (h .a-low) (k .b-low) (h .b-low) (k .a-low)) (lit< tt))
+    (lt-of-le-of-lt (products longestSide longestSide longestSide longestSide (h .a-low) (k .b-low) (h .b-low) (k .a-low)) (lit< tt))
 
 -- the determinant
 module _ (t : tie.After-cross) where
@@ -79,7 +80,7 @@ cross-requires-2 t κs =
     let h = s .pre .0 in
     let k = s .pre .1 in
     rw (d s, e s, b s, f s)
-    (lt-of-le-of-lt (products 799 1276802 799 1276802 (k .b-low) (h .e-low) (h .b-low) (k .e-low)) (lit< tt))
+    (lt-of-le-of-lt (products longestSide largestSum longestSide largestSum (k .b-low) (h .e-low) (h .b-low) (k .e-low)) (lit< tt))
 
 -- the numerator of x
 module _ (t : tie.After-cross2) where
@@ -91,7 +92,7 @@ over-requires t κs =
     let s = start (t .before .before) in
     let h = s .pre .0 in
     let k = s .pre .1 in
-    let low = size-cross (m s .b) (l s .e) (l s .b) (m s .e) 799 1276802 799 1276802 (k .b-low) (h .e-low) (h .b-low) (k .e-low) in
+    let low = size-cross (m s .b) (l s .e) (l s .b) (m s .e) longestSide largestSum longestSide largestSum (k .b-low) (h .e-low) (h .b-low) (k .e-low) in
     rw (read-back (t .cross2 .result) (t .cross2 .ok), det-back (t .before .before))
     (rw (x-is t) (lt-of-le-of-lt low (lit< tt)), det-not (t .before))
 
@@ -107,7 +108,7 @@ module _ (t : tie.After-opposite) where
   c-is : toZ w32 (ofZ w32 (t .opposite .result)) ≡ negℤ (m start-c .a)
   c-is = read-back (t .opposite .result) (t .opposite .ok) ∙ rw (c start-c) at (t .opposite .ensures)
 
-  c-low : natAbs (negℤ (m start-c .a)) ≤ 799
+  c-low : natAbs (negℤ (m start-c .a)) ≤ longestSide
   c-low = rw (size-neg (m start-c .a)) (start-c .pre .1 .a-low)
 
 dot-requires : tie.Need-dot-requires
@@ -116,7 +117,7 @@ dot-requires t κs =
     let h = s .pre .0 in
     let k = s .pre .1 in
     rw (c-is t, e s, a s, f s)
-    (lt-of-le-of-lt (products 799 1276802 799 1276802 (c-low t) (h .e-low) (h .a-low) (k .e-low)) (lit< tt))
+    (lt-of-le-of-lt (products longestSide largestSum longestSide largestSum (c-low t) (h .e-low) (h .a-low) (k .e-low)) (lit< tt))
 
 -- the numerator of y
 module _ (t : tie.After-dot) where
@@ -128,7 +129,7 @@ over-requires-2 t κs =
     let s = start-c (t .before) in
     let h = s .pre .0 in
     let k = s .pre .1 in
-    let low = size-dot (negℤ (m s .a)) (l s .e) (l s .a) (m s .e) 799 1276802 799 1276802 (c-low (t .before)) (h .e-low) (h .a-low) (k .e-low) in
+    let low = size-dot (negℤ (m s .a)) (l s .e) (l s .a) (m s .e) longestSide largestSum longestSide largestSum (c-low (t .before)) (h .e-low) (h .a-low) (k .e-low) in
     rw (read-back (t .dot .result) (t .dot .ok), det-back (t .before .before .before .before .before))
     (rw (y-is t) (lt-of-le-of-lt low (lit< tt)), det-not (t .before .before .before .before))
 

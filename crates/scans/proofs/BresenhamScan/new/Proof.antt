@@ -1,12 +1,13 @@
--- `new` meets its contract: two points within the range of refusal 12 are at most 20,000 apart. Assumes nothing.
+-- `new` meets its contract: two points within the range of refusal 12 are at most twice that far apart. Assumes nothing.
 use borrow.Author.Needs.{needs}
 use borrow.Author.Tests.{lt-ltb, le-ltb}
 use native.Mathlib.Omega.{arith}
 use mathlib.Core.Path.{_≡_, _∙_}
-use Prim.Native.Nat.{_≤_}
+use Prim.Native.Nat.{_+_, _≤_}
 use lib.IntN.{natAbs, _-ℤ_}
 use mir.Syntax.{w32}
 use mir.Val.{toZ, ofZ}
+use Rattle.refusals.specs.Limits.{farthest}
 use Rattle.sizes.proofs.Size.{size-sub, read-back}
 use Rattle.scans.specs.Scan.{scanOf}
 use Rattle.scans.proofs.BresenhamScan.new.Statement.{statement}
@@ -26,10 +27,10 @@ module _ (s : tie.Start) where
   qy : toZ w32 (ofZ w32 (s .args .to .y)) ≡ s .args .to .y
   qy = search needs
 
-  across-low : natAbs (s .args .to .x -ℤ s .args .from .x) ≤ 20000
+  across-low : natAbs (s .args .to .x -ℤ s .args .from .x) ≤ farthest + farthest
   across-low = let p = s .pre .0 in let q = s .pre .1 in let h = size-sub (s .args .to .x) (s .args .from .x) in omega arith
 
-  down-low : natAbs (s .args .to .y -ℤ s .args .from .y) ≤ 20000
+  down-low : natAbs (s .args .to .y -ℤ s .args .from .y) ≤ farthest + farthest
   down-low = let p = s .pre .0 in let q = s .pre .1 in let h = size-sub (s .args .to .y) (s .args .from .y) in omega arith
 
 diff-requires : tie.Need-diff-requires

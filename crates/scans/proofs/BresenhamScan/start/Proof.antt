@@ -1,4 +1,4 @@
--- `start` meets its contract: distances of 20,000 and less have a size. Assumes nothing.
+-- `start` meets its contract: its distances are small enough to have a size. Assumes nothing.
 use borrow.Author.Needs.{needs}
 use native.Mathlib.Omega.{arith}
 use mathlib.Core.Path.{_≡_}
