@@ -1,2 +1,3 @@
 mod Geometry
+mod Pictures
 pub mod Document01

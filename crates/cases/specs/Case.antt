@@ -2,17 +2,14 @@
 use mathlib.Core.Path.{_≡_}
 use mathlib.Core.List.{List, [], _∷_}
 
--- an example: what is asked, and what is to be answered
-pub record Case : Type 1 where
-  pub Answer : Type 0
-  pub asked : Answer
-  pub answer : Answer
-
+-- an example: what is asked and what is to be answered, or a fact that it states
 infix 4 _answers_
-abbrev pub _answers_ : {A : Type 0} → A → A → Case
-_answers_ {A} asked answer = record { Answer = A; asked = asked; answer = answer }
+pub data Case : Type 1 where
+  _answers_ : {A : Type 0} → A → A → Case
+  states : Type 0 → Case
 
--- each example is answered so
+-- each example is so
 unfoldable pub AllHold : List Case → Type 0
 AllHold [] = Unit
-AllHold (c ∷ cs) = (c .asked ≡ c .answer) × AllHold cs
+AllHold ((asked answers answer) ∷ cases) = (asked ≡ answer) × AllHold cases
+AllHold (states fact ∷ cases) = fact × AllHold cases

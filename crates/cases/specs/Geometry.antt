@@ -9,6 +9,10 @@ use Rattle.geometry.specs.Create.{sightOf}
 use Rattle.geometry.specs.Map.{mapped}
 use Rattle.geometry.specs.declared.Perspective.{Perspective}
 use Rattle.geometry.specs.declared.Sight.the-variants.{Made, Flat}
+use Rattle.lines.specs.Meet.{meetOf}
+use Rattle.lines.specs.declared.Meet.the-variants.{At}
+use Rattle.scans.specs.Scan.{scanOf}
+use Rattle.scans.specs.Points.{points}
 use Rattle.cases.specs.Case.{Case, _answers_}
 
 abbrev at : ℤ → ℤ → Point
@@ -42,4 +46,9 @@ geometry =
     -- corners in the opposite turn are flat
     ∷ (sightOf (at (pos 10) (pos 10)) (at (pos 10) (pos 17)) (at (pos 17) (pos 17)) (at (pos 17) (pos 10)) seven seven
     answers Flat)
+    -- (0,0)-(1,1) meets (0,1)-(1,0) at (0,0)
+    ∷ (meetOf (at (pos 0) (pos 0)) (at (pos 1) (pos 1)) (at (pos 0) (pos 1)) (at (pos 1) (pos 0)) answers At (at (pos 0) (pos 0)))
+    -- scan (0,0) to (3,1): (0,0) (1,0) (2,1) (3,1)
+    ∷ (points (scanOf (at (pos 0) (pos 0)) (at (pos 3) (pos 1)))
+    answers (at (pos 0) (pos 0) ∷ at (pos 1) (pos 0) ∷ at (pos 2) (pos 1) ∷ at (pos 3) (pos 1) ∷ []))
     ∷ []

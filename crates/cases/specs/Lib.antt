@@ -1,3 +1,4 @@
 pub mod Case
 pub mod Geometry
+pub mod Pictures
 pub mod Table

@@ -1,7 +1,8 @@
 -- Document 01's examples marked P, all of them. Assumes nothing.
-use mathlib.Core.List.{List}
+use mathlib.Core.List.{List, _++_}
 use Rattle.cases.specs.Case.{Case}
 use Rattle.cases.specs.Geometry.{geometry}
+use Rattle.cases.specs.Pictures.{pictures}
 
 unfoldable pub table : List Case
-table = geometry
+table = geometry ++ pictures
