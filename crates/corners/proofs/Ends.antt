@@ -47,7 +47,7 @@ mem-ends (r ∷ rows) row i =
 
 -- no pixel of the rows scores more than the first of the highest of the points, where all their ends are among those
 pub no-pixel-higher :
-    {score : Point → ℤ} → Peaked score → {points : List Point} {p : Point} → First score points p → (rows : List Row) → ((q : Point) → Mem q (ends rows) → Mem q points)
+    {score : Point → ℤ} → Peaked score → {points : List Point} {p : Point} → First points score p → (rows : List Row) → ((q : Point) → Mem q (ends rows) → Mem q points)
     → (row : Row) → Mem row rows → (a : ℕ) → row .left ≤ a → a ≤ row .right → score (pointAt a (row .y)) ≤ℤ score p
 no-pixel-higher peaked F rows among row m a h k =
     let e = mem-ends rows row m in

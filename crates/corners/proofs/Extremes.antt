@@ -14,7 +14,7 @@ use Rattle.corners.specs.First.{First}
 use Rattle.corners.specs.declared.places.Best.{Best}
 use Rattle.corners.proofs.Order.{<ℤ-≤ℤ, ≤ℤ-<ℤ-trans}
 
-mem-parts : (l m : List Point) (a : Point) → Mem a (l ++ m) → Mem a l ⊎ Mem a m
+pub mem-parts : (l m : List Point) (a : Point) → Mem a (l ++ m) → Mem a l ⊎ Mem a m
 mem-parts [] m a i = inr i
 mem-parts (c ∷ l) m a i = ⊎-elim (λ e. inl (inl e)) (λ n. ⊎-elim (λ k. inl (inr k)) (λ k. inr k) (mem-parts l m a n)) i
 
@@ -24,7 +24,7 @@ mem-right (c ∷ l) m p i = inr (mem-right l m p i)
 
 module _ {score : Point → ℤ} where
   -- no point has a higher score than the first of the highest
-  pub first-highest : {ps : List Point} {p : Point} → First score ps p → (q : Point) → Mem q ps → score q ≤ℤ score p
+  pub first-highest : {ps : List Point} {p : Point} → First ps score p → (q : Point) → Mem q ps → score q ≤ℤ score p
   first-highest {ps} {p} F q m =
       ⊎-elim
       (λ k. <ℤ-≤ℤ (F .lower q k))
@@ -32,7 +32,7 @@ module _ {score : Point → ℤ} where
       (mem-parts (F .before) (p ∷ F .after) q (subst (Mem q) (F .are) m))
 
   -- there is only one
-  pub first-only : {ps : List Point} {p q : Point} → First score ps p → First score ps q → p ≡ q
+  pub first-only : {ps : List Point} {p q : Point} → First ps score p → First ps score q → p ≡ q
   first-only {p} {q} F G = go (F .before) (G .before) (F .after) (G .after) (sym (F .are) ∙ G .are) (F .lower) (G .lower) (F .no-higher) (G .no-higher)
     where
       go :
@@ -43,15 +43,15 @@ module _ {score : Point → ℤ} where
       go (r ∷ b) [] a d e f g h k = clashℤ (f q (inl (cc))) (k p (let t : b ++ (p ∷ a) ≡ d = cc in subst (Mem p) t (mem-right b (p ∷ a) p (inl refl))))
       go (r ∷ b) (s ∷ c) a d e f g h k = go b c a d (cc) (λ i m. f i (inr m)) (λ i m. g i (inr m)) h k
 
-  alone : (p : Point) → First score (p ∷ []) p
+  alone : (p : Point) → First (p ∷ []) score p
   alone p = record { before = []; after = []; are = refl; lower = λ q m. absurd m; no-higher = λ q m. absurd m }
 
   -- one point more: it takes the place where its score is higher, else the first one stays
-  module _ {ps : List Point} {p q : Point} (F : First score ps p) where
-    taken : score p <ℤ score q → First score (ps ++ (q ∷ [])) q
+  module _ {ps : List Point} {p q : Point} (F : First ps score p) where
+    taken : score p <ℤ score q → First (ps ++ (q ∷ [])) score q
     taken h = record { before = ps; after = []; are = refl; lower = λ r m. ≤ℤ-<ℤ-trans (first-highest F r m) h; no-higher = λ r m. absurd m }
 
-    kept : score q ≤ℤ score p → First score (ps ++ (q ∷ [])) p
+    kept : score q ≤ℤ score p → First (ps ++ (q ∷ [])) score p
     kept h =
         record {
           before = F .before;
@@ -77,7 +77,7 @@ raised-cases P b p worth more less = go (ltZ (b .score) worth) (λ t. more (ltZ-
 
 -- b is the first of the highest of the points, with its score
 pub record Kept (score : Point → ℤ) (points : List Point) (b : Best) : Type 0 where
-  pub first : First score points (b .place)
+  pub first : First points score (b .place)
   pub right : b .score ≡ score (b .place)
 
 module _ (score : Point → ℤ) where

@@ -9,7 +9,7 @@ use Rattle.corners.specs.Best.{raised, scored}
 use Rattle.pieces.specs.declared.Row.{Row}
 use Rattle.fill.specs.Fold.{folded}
 use Rattle.corners.specs.Rows.{leftEnd, rightEnd, byEnds, seenIn, ends}
-use Rattle.corners.specs.First.{First, Farthest}
+use Rattle.corners.specs.First.{First, FourWays}
 use Rattle.corners.specs.Finders.{firstCornerFrom, firstCornerSees, allCornersFrom, allCornersSee, leftMostFrom, leftMostSees}
 use Rattle.corners.specs.declared.places.Best.{Best}
 use Rattle.corners.specs.declared.first_corner.FirstCornerFinder.{FirstCornerFinder}
@@ -56,14 +56,14 @@ first-tried initial p =
     let dy = p .y -ℤ initial .y in
     beaten _ p (dx *ℤ dx +ℤ dy *ℤ dy) (natAbs dx * natAbs dx + natAbs dy * natAbs dy) (rw (square dx, square dy))
 
-first-corner-is : (initial p : Point) (ps : List Point) → First (distanceOf initial) (p ∷ ps) (seenIn firstCornerSees (firstCornerFrom initial) (p ∷ ps) .best .place)
+first-corner-is : (initial p : Point) (ps : List Point) → First (p ∷ ps) (distanceOf initial) (seenIn firstCornerSees (firstCornerFrom initial) (p ∷ ps) .best .place)
 unfolding seenIn firstCornerFrom
 first-corner-is initial p ps =
     let all = first-corner-tries (firstCornerFrom initial) (p ∷ ps) in
     let one = ap (λ (b : Best). seenIn (tried (distanceOf initial)) b ps) (first-tried initial p) in
-    subst (λ (b : Best). First (distanceOf initial) (p ∷ ps) (b .place)) (sym (all ∙ one)) (seen-first (distanceOf initial) p ps .first)
+    subst (λ (b : Best). First (p ∷ ps) (distanceOf initial) (b .place)) (sym (all ∙ one)) (seen-first (distanceOf initial) p ps .first)
 
-all-corners-are : (initial corner : Point) (ps : List Point) → Farthest (lineFrom initial corner) (initial ∷ ps) (seenIn allCornersSee (allCornersFrom initial corner) ps)
+all-corners-are : (initial corner : Point) (ps : List Point) → FourWays (First (initial ∷ ps)) (lineFrom initial corner) (seenIn allCornersSee (allCornersFrom initial corner) ps)
 unfolding allCornersFrom
 all-corners-are initial corner ps =
     let line = lineFrom initial corner in
@@ -75,7 +75,7 @@ all-corners-are initial corner ps =
       left = seen-first (leftOf line) initial ps .first;
     })
 
-left-most-is : (line start : Point) (ps : List Point) → First (leftOf line) (start ∷ ps) (seenIn leftMostSees (leftMostFrom line start) ps .best .place)
+left-most-is : (line start : Point) (ps : List Point) → First (start ∷ ps) (leftOf line) (seenIn leftMostSees (leftMostFrom line start) ps .best .place)
 unfolding leftMostFrom
 left-most-is line start ps = rw (left-most-tries (leftMostFrom line start) ps) (seen-first (leftOf line) start ps .first)
 
@@ -89,15 +89,15 @@ some-end row rows = go (ends rows)
     go (q ∷ qs) = (q, qs ++ (leftEnd row ∷ rightEnd row ∷ []), refl)
 
 -- the first corner is the first of the ends farthest from `initial`
-pub first-corner-found : (initial : Point) (row : Row) (rows : List Row) → First (distanceOf initial) (ends (row ∷ rows)) (folded (byEnds firstCornerSees) (firstCornerFrom initial) (row ∷ rows) .best .place)
+pub first-corner-found : (initial : Point) (row : Row) (rows : List Row) → First (ends (row ∷ rows)) (distanceOf initial) (folded (byEnds firstCornerSees) (firstCornerFrom initial) (row ∷ rows) .best .place)
 first-corner-found initial row rows =
     let some = some-end row rows in
     rw (rows-seen firstCornerSees (firstCornerFrom initial) (row ∷ rows), some .2) (first-corner-is initial (some .0) (some .1))
 
 -- the four corners are the first of the ends farthest in the four directions of the line from `initial` to a corner
-pub all-corners-found : (initial corner : Point) (rows : List Row) → Farthest (lineFrom initial corner) (initial ∷ ends rows) (folded (byEnds allCornersSee) (allCornersFrom initial corner) rows)
+pub all-corners-found : (initial corner : Point) (rows : List Row) → FourWays (First (initial ∷ ends rows)) (lineFrom initial corner) (folded (byEnds allCornersSee) (allCornersFrom initial corner) rows)
 all-corners-found initial corner rows = rw (rows-seen allCornersSee (allCornersFrom initial corner) rows) (all-corners-are initial corner (ends rows))
 
 -- the leftmost is the first of the ends farthest to the left of the line
-pub left-most-found : (line start : Point) (rows : List Row) → First (leftOf line) (start ∷ ends rows) (folded (byEnds leftMostSees) (leftMostFrom line start) rows .best .place)
+pub left-most-found : (line start : Point) (rows : List Row) → First (start ∷ ends rows) (leftOf line) (folded (byEnds leftMostSees) (leftMostFrom line start) rows .best .place)
 left-most-found line start rows = rw (rows-seen leftMostSees (leftMostFrom line start) rows) (left-most-is line start (ends rows))

@@ -5,3 +5,5 @@ pub mod Extremes
 pub mod Found
 pub mod Peaks
 pub mod Ends
+pub mod Looking
+pub mod Farthest

@@ -1,24 +1,34 @@
--- What a finder looks for among the points that it sees. Definitions alone.
+-- What a finder looks for. Definitions alone.
+use Prim.Native.Nat.{ℕ}
 use mathlib.Core.Path.{_≡_}
 use mathlib.Core.List.{List, _∷_, _++_}
 use lib.IntN.{ℤ}
 use lib.Signed.{_<ℤ_, _≤ℤ_}
 use Rattle.points.specs.declared.Point.{Point}
 use Rattle.pieces.specs.Count.{Mem}
+use Rattle.corners.specs.Rows.{pointAt}
 use Rattle.corners.specs.Scores.{alongOf, acrossOf, behindOf, leftOf}
 use Rattle.corners.specs.declared.all_corners.AllCornerFinder.{AllCornerFinder}
 
--- p is the first of those points that have the highest score
-pub record First (score : Point → ℤ) (points : List Point) (p : Point) : Type 0 where
+-- among the points seen: p is the first of those that have the highest score
+pub record First (points : List Point) (score : Point → ℤ) (p : Point) : Type 0 where
   pub before : List Point
   pub after : List Point
   pub are : points ≡ before ++ (p ∷ after)
   pub lower : (q : Point) → Mem q before → score q <ℤ score p
   pub no-higher : (q : Point) → Mem q after → score q ≤ℤ score p
 
--- in each of the four directions of a line, the first of those points that lie farthest that way
-pub record Farthest (line : Point) (points : List Point) (f : AllCornerFinder) : Type 0 where
-  pub ahead : First (alongOf line) points (f .ahead .place)
-  pub right : First (acrossOf line) points (f .right .place)
-  pub behind : First (behindOf line) points (f .behind .place)
-  pub left : First (leftOf line) points (f .left .place)
+-- in a set of pixels: p is one of them, and none has a higher score
+pub record Highest (S : ℕ → ℕ → Type 0) (score : Point → ℤ) (p : Point) : Type 0 where
+  pub column : ℕ
+  pub line : ℕ
+  pub is : p ≡ pointAt column line
+  pub inside : S column line
+  pub no-higher : (a b : ℕ) → S a b → score (pointAt a b) ≤ℤ score p
+
+-- P holds of the four corners found, each by how far it lies in its direction of the line
+pub record FourWays (P : (Point → ℤ) → Point → Type 0) (line : Point) (f : AllCornerFinder) : Type 0 where
+  pub ahead : P (alongOf line) (f .ahead .place)
+  pub right : P (acrossOf line) (f .right .place)
+  pub behind : P (behindOf line) (f .behind .place)
+  pub left : P (leftOf line) (f .left .place)

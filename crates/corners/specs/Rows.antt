@@ -1,10 +1,15 @@
 -- The ends of the rows that a fill meets, as points. Assumes nothing.
-use Prim.Native.Nat.{ℕ, _<_}
+use Prim.Native.Nat.{ℕ, _<_, _≤_}
 use mathlib.Core.List.{List, [], _∷_, _++_}
 use lib.IntN.{pos}
 use Rattle.refusals.specs.Limits.{longestSide}
 use Rattle.points.specs.declared.Point.{Point}
 use Rattle.pieces.specs.declared.Row.{Row}
+
+-- a picture's sides
+pub record Sides (w h : ℕ) : Type 0 where
+  pub wide : w ≤ longestSide
+  pub tall : h ≤ longestSide
 
 -- the row is one of some picture
 pub record Drawn (row : Row) : Type 0 where

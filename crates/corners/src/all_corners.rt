@@ -3,11 +3,19 @@ use crate::places::point_at;
 use crate::scores::across;
 use crate::scores::along;
 use crate::scores::line_from;
+use fill::step::Stepped;
+use fill::step::fill_step;
+use fill::step::seed;
 use pieces::Row;
 use points::Point;
 ghost use mathlib.Core.Path.{_≡_};
+ghost use lib.ListN.{length};
 ghost use Rattle.points.specs.Range.{Within};
-ghost use Rattle.corners.specs.Rows.{Drawn, byEnds};
+ghost use Rattle.pieces.specs.Paint.{Paints};
+ghost use Rattle.fill.specs.Order.{rowsMet};
+ghost use Rattle.fill.specs.Fill.{Fillable};
+ghost use Rattle.fill.specs.Fold.{folded};
+ghost use Rattle.corners.specs.Rows.{Drawn, Sides, byEnds};
 ghost use Rattle.corners.specs.Scores.{Direction};
 ghost use Rattle.corners.specs.Finders.{allCornersFrom, allCornersSee};
 
@@ -77,4 +85,35 @@ impl AllCornerFinder {
         let f = self.see(point_at(row.left, row.y));
         f.see(point_at(row.right, row.y))
     }
+}
+
+// Paints the piece of (x, y) with `to`, and shows each row that it meets to the finder.
+pub fn fill_all_corners(
+    pic: &mut [u8],
+    w: usize,
+    h: usize,
+    stack: &mut [u32],
+    x: usize,
+    y: usize,
+    to: u8,
+    finder: AllCornerFinder,
+) -> AllCornerFinder
+    requires { ⌜ Fillable (now pic) w h x y to (length (now stack)) ⌝ ∗ ⌜ Sides w h ⌝ ∗ ⌜ Direction (finder .baseline) ⌝ }
+    ensures { λ r. ⌜ Paints (now (pic .entry)) w h x y to (now (pic .exit)) × (r ≡ folded (byEnds allCornersSee) finder (rowsMet (now (pic .entry)) w h x y to)) ⌝ }
+{
+    let from = seed(pic, w, h, x, y, stack);
+    let mut found = finder;
+    let mut sp = 1;
+    while sp > 0 {
+        match fill_step(pic, w, h, from, to, stack, sp) {
+            Stepped::Met(row, top) => {
+                found = found.update(row);
+                sp = top;
+            }
+            Stepped::Passed(top) => {
+                sp = top;
+            }
+        }
+    }
+    found
 }
