@@ -16,13 +16,13 @@ Parallel p0 p1 q0 q1 = (p1 .x -ℤ p0 .x) *ℤ (q1 .y -ℤ q0 .y) ≡ (p1 .y -�
 abbrev pub On : Point → Point → ℤ → ℤ → ℤ → Type 0
 On p q x y w = (x -ℤ w *ℤ p .x) *ℤ (q .y -ℤ p .y) ≡ (y -ℤ w *ℤ p .y) *ℤ (q .x -ℤ p .x)
 
--- c is the quotient n / d, cut toward zero: as large as fits into it, and not on the other side of 0
+-- c is the quotient n / d, cut toward zero: c times d goes into n and one more would not (`low`, `high`), and c has the quotient's sign or is 0 (`side`)
 pub record Cut (n d c : ℤ) : Type 0 where
   pub low : natAbs c * natAbs d ≤ natAbs n
   pub high : natAbs n < (natAbs c + 1) * natAbs d
   pub side : T (nonNeg (c *ℤ (n *ℤ d)))
 
--- the lines are not parallel, (x / w, y / w) is on both, and r is that point, each coordinate cut toward zero
+-- the lines are not parallel (`apart`), (x / w, y / w) with w not 0 is the point of both, and r is that point, each coordinate cut toward zero
 pub record Crossing (p0 p1 q0 q1 r : Point) : Type 0 where
   pub apart : Parallel p0 p1 q0 q1 → ⊥
   pub x : ℤ

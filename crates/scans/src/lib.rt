@@ -126,6 +126,7 @@ impl BresenhamScan {
         self.placed(off, self.domstep, left)
     }
 
+    // Moved by (dx, dy), with `left` gathered.
     fn placed(self, dx: i32, dy: i32, left: u32) -> Self
         requires { ⌜ Good self ⌝ ∗ ⌜ self .i ≤ self .d ⌝ ∗ ⌜ natAbs dx ≤ 1 ⌝ ∗ ⌜ natAbs dy ≤ 1 ⌝ }
         ensures { λ r. ⌜ r ≡ placedBy self dx dy left ⌝ }
