@@ -1,0 +1,3 @@
+pub mod Threshold
+pub mod Run
+pub mod Prepared
