@@ -2,14 +2,12 @@
 use Prim.Native.Nat.{ℕ}
 use native.Mathlib.Omega.{arith}
 use mathlib.Core.Path.{_≡_, sym, subst}
-use mathlib.Core.List.{List, [], _∷_, _++_}
-use mathlib.Core.Bool.{not, _&&_}
-use lib.Dec.{eqb, leb}
+use mathlib.Core.List.{List}
 use lib.ListN.{length}
 use borrow.Author.Tests.{eqb-false}
-use Rattle.refusals.specs.First.{Test, first, sound}
+use Rattle.refusals.specs.First.{first, sound}
 use Rattle.refusals.proofs.First.{Clear, clear}
-use Rattle.picture.specs.Sides.{seedTests, Seeded}
+use Rattle.picture.specs.Sides.{Seeded}
 use Rattle.picture.proofs.Passed.{clear-seeded}
 use Rattle.pieces.specs.Picture.{px}
 use Rattle.pieces.specs.Piece.{Piece, Pixels}
@@ -22,7 +20,7 @@ use Rattle.fill.specs.Fold.{Counted}
 use Rattle.fill.specs.declared.paint.Counts.{Counts}
 use Rattle.fill.proofs.Filling.{can-fill}
 use Rattle.fill.proofs.Laws.{rows-counted, pixels-counted, pushes-counted}
-use Rattle.claim.specs.Tests.{paintTests, claimTests}
+use Rattle.claim.specs.Tests.{claimTests}
 use Rattle.claim.specs.Outcome.{ClaimsPiece}
 
 module _ (pic : List ℕ) (width height lent x y target : ℕ) (passed : first (claimTests pic width height lent x y target) sound ≡ sound) where

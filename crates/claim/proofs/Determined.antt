@@ -1,19 +1,13 @@
 -- A claim is determined: two outcomes that its contract allows coincide, in answer and picture. Assumes nothing.
-use Prim.Native.Nat.{ℕ, suc}
+use Prim.Native.Nat.{ℕ}
 use native.Mathlib.Omega.{arith}
-use mathlib.Core.Path.{_≡_, refl, sym, ap, _∙_}
+use mathlib.Core.Path.{_≡_, sym, ap, _∙_}
 use mathlib.Core.List.{List}
-use lib.ListN.{length}
-use Rattle.refusals.specs.Finding.{refusedBy}
-use Rattle.refusals.specs.First.{first, sound}
-use Rattle.refusals.specs.declared.Refusal.{Refusal}
 use Rattle.refusals.proofs.Distinct.{refusal-only}
 use Rattle.pieces.specs.Pairs.{Pushes}
 use Rattle.pieces.proofs.Counting.{number-unique}
 use Rattle.pieces.proofs.Paints.{paints-unique}
-use Rattle.fill.specs.declared.paint.Counts.{Counts}
-use Rattle.claim.specs.Tests.{claimTests}
-use Rattle.claim.specs.Outcome.{claimed, ClaimsPiece, Outcome}
+use Rattle.claim.specs.Outcome.{claimed, Outcome}
 use Rattle.claim.specs.declared.Claimed.{Claimed}
 use Rattle.claim.specs.declared.Claimed.the-variants.{Done, Refused}
 use Rattle.claim.proofs.Accepted.{claim-seeded}

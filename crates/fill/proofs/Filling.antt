@@ -11,7 +11,7 @@ use Rattle.pieces.specs.Pairs.{Pushes}
 use Rattle.pieces.specs.Paint.{Paints}
 use Rattle.pieces.specs.declared.Row.{Row}
 use Rattle.pieces.proofs.Chains.{last-of}
-use Rattle.fill.specs.Order.{Turned, turned, turn, State, state, after, turns, begun, filled, rowsMet, entriesPushed}
+use Rattle.fill.specs.Order.{Turned, turn, State, state, after, turns, begun, filled, rowsMet, entriesPushed}
 use Rattle.fill.specs.Stack.{widest, entryOf, held}
 use Rattle.fill.specs.Fill.{Fillable, Steppable, Steps, sizeOf, metBy}
 use Rattle.fill.specs.declared.step.Stepped.{Stepped}

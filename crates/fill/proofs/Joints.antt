@@ -3,7 +3,7 @@ use Prim.Native.Nat.{ℕ, suc, _+_, _*_, _-_, _<_, _≤_}
 use native.Mathlib.Omega.{arith}
 use native.Mathlib.Nat.{mul-comm, suc-mul}
 use mathlib.Core.Path.{_≡_, refl, sym, ap, _∙_, subst}
-use mathlib.Core.List.{List, [], _∷_}
+use mathlib.Core.List.{List, _∷_}
 use mathlib.Core.Logic.{_⊎_, inl, inr, ⊎-elim}
 use lib.ListN.{length}
 use Rattle.pieces.specs.Picture.{px, Pixel, pixel}
@@ -126,7 +126,7 @@ module _ {T : Task} {p : List ℕ} {e : Pixel} {st : List Pixel} {R : List Row} 
       ⊎-elim
       (λ z. let u = J .sound j z in (u .0, ⊎-elim (λ a. inl (inr a)) (λ a. inr (inr a)) (u .1)))
       (λ z. let s = z .3 in subst Ok (sym (z .4)) (up-joint (z .0) (z .1) (z .2) s, inr (inl (sym (z .2), s .low, omega (arith, s .high)))))
-      (above-from (T .w) (T .h) (f T) p₁ (r .left) n pixel (r .y) E j i))
+      (above-from (T .w) (f T) p₁ (r .left) n pixel (r .y) E j i))
       (λ z. let s = z .2 in subst Ok (sym (z .3)) (down-joint (z .0) (z .1) s, inl (inl (refl, s .low, omega (arith, s .high)))))
       (below-from (T .w) (T .h) (f T) p₁ (r .left) n (λ c v. pixel c (r .y)) (r .y) E₁ j m)
 
@@ -167,12 +167,12 @@ module _ {T : Task} {p : List ℕ} {e : Pixel} {st : List Pixel} {R : List Row} 
             K .first k i (origin′ G Q hit k b (omega (arith, K .wide)) hb g)
             (ap (λ (m : ℕ). at T k m) (sym (q .0)) ∙ on-row k l (omega (arith, q .2)));
       } in
-      keep-E (pixel c b) (above-have (T .w) (T .h) (f T) p₁ (r .left) n pixel (r .y) b c E (sym (q .0)) s)
+      keep-E (pixel c b) (above-have (T .w) (f T) p₁ (r .left) n pixel (r .y) b c E (sym (q .0)) s)
 
   whole′ : (c b : ℕ) → Joint T c b → Touched (r ∷ R) c b → Mem (pixel c b) E₂
   unfolding E₁
   whole′ c b K t =
-      let old : Touched R c b → Mem (pixel c b) E₂ = λ u. keep-E (pixel c b) (above-keep (T .w) (T .h) (f T) p₁ (r .left) n pixel (r .y) E (pixel c b) (J .whole c b K u)) in
+      let old : Touched R c b → Mem (pixel c b) E₂ = λ u. keep-E (pixel c b) (above-keep (T .w) (f T) p₁ (r .left) n pixel (r .y) E (pixel c b) (J .whole c b K u)) in
       ⊎-elim
       (λ u. old (inl u))
       (λ nu.
@@ -198,7 +198,7 @@ module _ {T : Task} {p : List ℕ} {e : Pixel} {st : List Pixel} {R : List Row} 
       let v = Q .order in
       let same-col : (v a b : ℕ) → pixel a v ≡ pixel b v → a ≡ b = λ v a b q. ap (λ (d : Pixel). d .col) q in
       below-distinct (T .w) (T .h) (f T) p₁ (r .left) n (λ c v. pixel c (r .y)) (λ v a b q. same-col (r .y) a b q) (r .y) E₁
-      (above-distinct (T .w) (T .h) (f T) p₁ (r .left) n pixel same-col (r .y) E (J .once)
+      (above-distinct (T .w) (f T) p₁ (r .left) n pixel same-col (r .y) E (J .once)
       (λ b c q l g z m.
       ⊎-elim
       (λ i. uncovered′ G Q hit c b (omega arith) (omega arith) z (inr i))
@@ -212,7 +212,7 @@ module _ {T : Task} {p : List ℕ} {e : Pixel} {st : List Pixel} {R : List Row} 
       (λ k. uncovered′ G Q hit c (suc (r .y)) (omega arith) lt z (inr k))
       (J .sound (pixel c (r .y)) i .1))
       (λ i. let k : r .y ≡ i .0 = ap (λ (d : Pixel). d .line) (i .4) in omega (arith, i .2))
-      (above-from (T .w) (T .h) (f T) p₁ (r .left) n pixel (r .y) E (pixel c (r .y)) m))
+      (above-from (T .w) (f T) p₁ (r .left) n pixel (r .y) E (pixel c (r .y)) m))
 
   -- as many as entries are pushed
   pub joints-met : (E′ : List Pixel) × Joints T (r ∷ R) E′ × (length E′ + length st ≡ length (pushed T p r st) + length E)

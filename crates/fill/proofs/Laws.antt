@@ -1,7 +1,7 @@
 -- The rule's rows and pushes are the piece's: every row of it is met, and once; their pixels are its pixels, counted once; and the pushes are 1 more than its pairs of overlapping rows. Assumes nothing.
-use Prim.Native.Nat.{ℕ, suc, _+_, _*_}
+use Prim.Native.Nat.{ℕ}
 use native.Mathlib.Omega.{arith}
-use mathlib.Core.Path.{_≡_, refl, sym, ap, _∙_, subst}
+use mathlib.Core.Path.{_≡_, refl, sym, subst}
 use mathlib.Core.List.{List, [], _∷_}
 use lib.ListN.{length}
 use Rattle.pieces.specs.Count.{Lists}
@@ -12,8 +12,7 @@ use Rattle.pieces.specs.Paint.{Paints}
 use Rattle.pieces.specs.declared.Row.{Row}
 use Rattle.fill.specs.Order.{State, filled, rowsMet, entriesPushed}
 use Rattle.fill.specs.Fold.{folded, oneMore, widthMore}
-use Rattle.fill.proofs.Underway.{Task, Valid, PieceOf, Underway}
-use Rattle.fill.proofs.Turns.{turnsOf}
+use Rattle.fill.proofs.Underway.{Task, Valid, Underway}
 use Rattle.fill.proofs.Whole.{whole-paints, whole-rows, whole-pixels}
 use Rattle.fill.proofs.Filling.{taskOf, filled-is, underway-end, pushes-end}
 

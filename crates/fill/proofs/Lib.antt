@@ -9,6 +9,7 @@ pub mod Joints
 pub mod Tally
 pub mod Whole
 pub mod Entries
+pub mod Inside
 pub mod Stepping
 pub mod Measure
 pub mod Filling

@@ -1,23 +1,22 @@
 -- What a fill has left to do falls with each turn: a row of n pixels paints n and pushes at most 2 n entries. Assumes nothing.
 use Prim.Native.Nat.{ℕ, zero, suc, _+_, _*_, _<_, _≤_}
 use native.Mathlib.Omega.{arith}
-use mathlib.Core.Path.{_≡_, refl, sym, ap, _∙_}
+use mathlib.Core.Path.{_≡_, sym, ap, _∙_}
 use mathlib.Core.List.{List, [], _∷_}
-use mathlib.Core.Bool.{Bool, true, false}
+use mathlib.Core.Bool.{true, false}
 use mathlib.Core.Logic.{inr, ⊎-elim}
 use lib.ListN.{getD, set, length}
 use lib.Dec.{eqb}
 use borrow.Author.Tests.{eq-eqb, ne-eqb}
-use Rattle.pieces.specs.Picture.{px, Pixel, pixel}
+use Rattle.pieces.specs.Picture.{px, Pixel}
 use Rattle.pieces.specs.Piece.{Same}
 use Rattle.pieces.specs.Row.{RowOf}
 use Rattle.pieces.specs.declared.Row.{Row}
-use Rattle.pieces.proofs.Numbers.{same, split}
+use Rattle.pieces.proofs.Numbers.{same}
 use Rattle.pieces.proofs.Index.{in-picture}
-use Rattle.fill.specs.Order.{widthOf, rowAt, paintRun, paintRow, seeds, above, below, seeded, Turned, meet, turn}
+use Rattle.fill.specs.Order.{widthOf, rowAt, paintRun, paintRow, Turned, meet, turn}
 use Rattle.fill.proofs.Painted.{length-paint, paint-out}
-use Rattle.fill.proofs.Scan.{seeds-off, seeds-on, seeds-new, seeds-end}
-use Rattle.fill.proofs.Lines.{above-zero, above-suc, below-in, below-out}
+use Rattle.fill.proofs.Lines.{seeded-few}
 use Rattle.fill.proofs.Underway.{Task, Underway}
 use Rattle.fill.proofs.Turns.{turn-passed, turn-met, entry-row}
 
@@ -68,38 +67,6 @@ module _ (b : ℕ) where
       of-run p (r .y * w + r .left) (widthOf r) t (omega arith)
       (λ k l. let z : r .y * w + r .left + k ≡ r .y * w + (r .left + k) = omega arith in ap (λ (j : ℕ). getD p j 0) z ∙ Q .all (r .left + k) (omega arith) (omega arith) .2)
       ne
-
--- a scan of n columns pushes at most n entries
-module _ {A : Type 0} (p : List ℕ) (w f : ℕ) where
-  seeds-few : (mk : ℕ → A) (y x n : ℕ) (on : Bool) (st : List A) → length (seeds mk p w f y x n on st) ≤ n + length st
-  seeds-few mk y x zero on st = omega (arith, ap length (seeds-end p w f y mk x on st))
-  seeds-few mk y x (suc n) true st =
-      ⊎-elim
-      (λ e. omega (arith, ap length (seeds-on p w f y mk x n st e), seeds-few mk y (suc x) n true st))
-      (λ e. omega (arith, ap length (seeds-off p w f y mk x n true st e), seeds-few mk y (suc x) n false st))
-      (same (px p w x y) f)
-  seeds-few mk y x (suc n) false st =
-      ⊎-elim
-      (λ e. omega (arith, ap length (seeds-new p w f y mk x n st e), seeds-few mk y (suc x) n true (mk x ∷ st)))
-      (λ e. omega (arith, ap length (seeds-off p w f y mk x n false st e), seeds-few mk y (suc x) n false st))
-      (same (px p w x y) f)
-
-  above-few : (h : ℕ) (mk : ℕ → ℕ → A) (l n y : ℕ) (st : List A) → length (above w f mk p l n y st) ≤ n + length st
-  above-few h mk l n zero st = omega (arith, ap length (above-zero w h f p l n mk st))
-  above-few h mk l n (suc y) st = omega (arith, ap length (above-suc w h f p l n mk y st), seeds-few (λ x. mk x y) y l n false st)
-
-  below-few : (h : ℕ) (mk : ℕ → ℕ → A) (l n y : ℕ) (st : List A) → length (below w h f mk p l n y st) ≤ n + length st
-  below-few h mk l n y st =
-      ⊎-elim
-      (λ g. omega (arith, ap length (below-in w h f p l n mk y st g), seeds-few (λ x. mk x (suc y)) (suc y) l n false st))
-      (λ g. omega (arith, ap length (below-out w h f p l n mk y st (omega arith))))
-      (split (suc (suc y)) h)
-
-seeded-few : (w h f : ℕ) (p : List ℕ) (r : Row) (st : List Pixel) → length (seeded w h f p r st) ≤ 2 * widthOf r + length st
-unfolding seeded
-seeded-few w h f p r st =
-    let st₁ = above w f pixel p (r .left) (widthOf r) (r .y) st in
-    omega (arith, above-few p w f h pixel (r .left) (widthOf r) (r .y) st, below-few p w f h pixel (r .left) (widthOf r) (r .y) st₁)
 
 -- a turn leaves less to do
 pub turn-less : {T : Task} {p : List ℕ} {e : Pixel} {st : List Pixel} {R : List Row} → Underway T p (e ∷ st) R → let d = turn (T .w) (T .h) (px (T .P) (T .w) (T .x) (T .y)) (T .t) p (e ∷ st) in toDo (px (T .P) (T .w) (T .x) (T .y)) (d .pic) (length (d .stack)) < toDo (px (T .P) (T .w) (T .x) (T .y)) p (suc (length st))

@@ -200,3 +200,17 @@ module _ (p : List ℕ) (w f y : ℕ) where
 
     pub seeds-grow : (x n : ℕ) (on : Bool) (st : List A) → length st ≤ length (seeds mk p w f y x n on st)
     seeds-grow x n on st = let q = seeds-length mk x n on st [] in omega arith
+
+    -- at most one for each column
+    pub seeds-few : (x n : ℕ) (on : Bool) (st : List A) → length (seeds mk p w f y x n on st) ≤ n + length st
+    seeds-few x zero on st = omega (arith, ap length (seeds-end p w f y mk x on st))
+    seeds-few x (suc n) true st =
+        ⊎-elim
+        (λ e. omega (arith, ap length (seeds-on p w f y mk x n st e), seeds-few (suc x) n true st))
+        (λ e. omega (arith, ap length (seeds-off p w f y mk x n true st e), seeds-few (suc x) n false st))
+        (same (px p w x y) f)
+    seeds-few x (suc n) false st =
+        ⊎-elim
+        (λ e. omega (arith, ap length (seeds-new p w f y mk x n st e), seeds-few (suc x) n true (mk x ∷ st)))
+        (λ e. omega (arith, ap length (seeds-off p w f y mk x n false st e), seeds-few (suc x) n false st))
+        (same (px p w x y) f)

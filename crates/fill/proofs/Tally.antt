@@ -1,15 +1,14 @@
 -- The entries pushed: the seed's and one for each joint that was touched. So they are never more than the picture has pixels, and as many turns empty the stack. Assumes nothing.
-use Prim.Native.Nat.{ℕ, zero, suc, _+_, _*_, _-_, _<_, _≤_}
+use Prim.Native.Nat.{ℕ, zero, suc, _+_, _*_, _≤_}
 use native.Mathlib.Omega.{arith}
-use native.Mathlib.Nat.{add-zero, add-suc}
 use mathlib.Core.Path.{_≡_, refl, sym, ap, _∙_, subst}
-use mathlib.Core.List.{List, [], _∷_, _++_}
+use mathlib.Core.List.{List, [], _∷_}
 use mathlib.Core.Logic.{_⊎_, inl, inr, ⊎-elim}
 use lib.ListN.{length}
 use Rattle.pieces.specs.Picture.{px, Pixel}
 use Rattle.pieces.specs.declared.Row.{Row}
 use Rattle.pieces.proofs.Numbers.{same}
-use Rattle.fill.specs.Order.{rowAt, paintRow, seeded, Turned, turned, meet, turn, State, state, after, turns, begun, filled}
+use Rattle.fill.specs.Order.{rowAt, paintRow, Turned, meet, turn, State, state, after, turns, begun}
 use Rattle.fill.proofs.Lines.{seeded-grows}
 use Rattle.fill.proofs.Underway.{Task, Valid, f, Underway}
 use Rattle.fill.proofs.Turns.{painted, turn-none, turn-passed, turn-met, entry-row, entry-hit, turnsOf, underway}

@@ -1,9 +1,9 @@
 -- A turn keeps what holds in the middle of a fill. Assumes nothing.
-use Prim.Native.Nat.{ℕ, zero, suc, _+_, _*_, _-_, _<_, _≤_}
+use Prim.Native.Nat.{ℕ, zero, suc, _*_, _<_, _≤_}
 use native.Mathlib.Omega.{arith}
 use mathlib.Core.Path.{_≡_, refl, sym, ap, _∙_, subst}
 use mathlib.Core.List.{List, [], _∷_, _++_}
-use mathlib.Core.Logic.{_⊎_, inl, inr, ⊎-elim}
+use mathlib.Core.Logic.{inl, inr, ⊎-elim}
 use lib.ListN.{length}
 use borrow.Author.Tests.{eq-eqb, ne-eqb}
 use Rattle.pieces.specs.Picture.{px, Pixel, pixel}
@@ -15,12 +15,12 @@ use Rattle.pieces.specs.declared.Row.{Row}
 use Rattle.pieces.proofs.Numbers.{same}
 use Rattle.pieces.proofs.Chains.{last-of, go-left}
 use Rattle.pieces.proofs.Rows.{row-of-chain}
-use Rattle.fill.specs.Order.{widthOf, rowAt, paintRow, above, below, seeded, Turned, turned, meet, turn, State, turns, begun}
+use Rattle.fill.specs.Order.{widthOf, rowAt, paintRow, seeded, Turned, turned, meet, turn, State, turns, begun}
 use Rattle.fill.proofs.Painted.{row-painted, row-other, row-length}
 use Rattle.fill.proofs.RowAt.{row-at, row-at-holds}
 use Rattle.fill.proofs.Scan.{Seed, first-of}
 use Rattle.fill.proofs.Lines.{above-keep, below-keep, above-have, below-have, above-from, below-from}
-use Rattle.fill.proofs.Underway.{Task, Valid, f, at, SameOf, PieceOf, Covered, Waits, Underway, underway-begun, in-row?, covers, covered-piece, covered-in, waits-less, uncovered, covered, row-origin}
+use Rattle.fill.proofs.Underway.{Task, Valid, f, at, SameOf, PieceOf, Covered, Waits, Underway, underway-begun, in-row?, covers, covered-in, waits-less, uncovered, covered, row-origin}
 
 -- the entry's pixel is painted by now
 pub underway-passed : {T : Task} {p : List ℕ} {e : Pixel} {st : List Pixel} {R : List Row} → Underway T p (e ∷ st) R → (px p (T .w) (e .col) (e .line) ≡ f T → ⊥) → Underway T p st R
@@ -114,7 +114,7 @@ module _ {T : Task} {p : List ℕ} {e : Pixel} {st : List Pixel} {R : List Row} 
   unfolding seeded
   keep d m =
       below-keep (T .w) (T .h) (f T) (painted T p r) (r .left) (widthOf r) pixel (r .y) _ d
-      (above-keep (T .w) (T .h) (f T) (painted T p r) (r .left) (widthOf r) pixel (r .y) st d m)
+      (above-keep (T .w) (f T) (painted T p r) (r .left) (widthOf r) pixel (r .y) st d m)
 
   -- a pixel beside the row that is still of the seed's byte has an entry
   scanned : (a b : ℕ) → InRow r a (r .y) → px (painted T p r) (T .w) a b ≡ f T → (c : ℕ) × (c ≤ a) × Seed (painted T p r) (T .w) (f T) b (r .left) (r .left) (widthOf r) c × ((k : ℕ) → c ≤ k → k ≤ a → px (painted T p r) (T .w) k b ≡ f T)
@@ -135,7 +135,7 @@ module _ {T : Task} {p : List ℕ} {e : Pixel} {st : List Pixel} {R : List Row} 
   unfolding seeded
   waits-up a b q z =
       let i = scanned a b (refl, q .1, q .2) z in
-      let m = above-have (T .w) (T .h) (f T) (painted T p r) (r .left) (widthOf r) pixel (r .y) b (i .0) st (sym (q .0)) (i .2) in
+      let m = above-have (T .w) (f T) (painted T p r) (r .left) (widthOf r) pixel (r .y) b (i .0) st (sym (q .0)) (i .2) in
       waits-at a b (i .0) (omega (arith, q .2, wide)) (omega (arith, q .0, deep)) (i .1)
       (below-keep (T .w) (T .h) (f T) (painted T p r) (r .left) (widthOf r) pixel (r .y) _ (pixel (i .0) b) m) (i .3)
 
@@ -171,7 +171,7 @@ module _ {T : Task} {p : List ℕ} {e : Pixel} {st : List Pixel} {R : List Row} 
       let hb : b < T .h = omega (arith, j .2, deep) in
       let on : PieceOf T c (suc b) = subst (λ (v : ℕ). PieceOf T c v) (sym (j .2)) (new-row .all c (s .low) (omega (arith, s .high, Q .order))) in
       subst Ok (sym (j .4)) (north on (hc, hb, origin′ c b hc hb (s .here))))
-      (above-from (T .w) (T .h) (f T) (painted T p r) (r .left) (widthOf r) pixel (r .y) st d i))
+      (above-from (T .w) (f T) (painted T p r) (r .left) (widthOf r) pixel (r .y) st d i))
       (λ i.
       let c = i .0 in
       let s = i .2 in

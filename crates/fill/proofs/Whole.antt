@@ -5,7 +5,7 @@ use mathlib.Core.Path.{_≡_, refl, sym, ap, _∙_, subst}
 use mathlib.Core.List.{List, [], _∷_, map}
 use mathlib.Core.Logic.{_⊎_, inl, inr, ⊎-elim}
 use lib.ListN.{length}
-use Rattle.pieces.specs.Picture.{px, Pixel, pixel}
+use Rattle.pieces.specs.Picture.{Pixel, pixel}
 use Rattle.pieces.specs.Count.{Mem, Distinct, Lists, Number}
 use Rattle.pieces.specs.Chain.{start, west, east, north, south}
 use Rattle.pieces.specs.Piece.{Pixels}

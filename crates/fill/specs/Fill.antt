@@ -8,7 +8,7 @@ use Rattle.pieces.specs.Count.{Mem}
 use Rattle.pieces.specs.Piece.{Piece}
 use Rattle.pieces.specs.Pairs.{Room}
 use Rattle.pieces.specs.declared.Row.{Row}
-use Rattle.fill.specs.Order.{turned, turn}
+use Rattle.fill.specs.Order.{turned, meet, turn}
 use Rattle.fill.specs.Stack.{widest, held}
 use Rattle.fill.specs.declared.step.Stepped.{Stepped}
 use Rattle.fill.specs.declared.step.Stepped.the-variants.{Met, Passed}
@@ -26,6 +26,18 @@ pub record Fillable (p : List ℕ) (w h x y t room : ℕ) : Type 0 where
   pub in-y : y < h
   pub other : px p w x y ≡ t → ⊥
   pub enough : Room (Piece p w h x y) room
+
+-- the row r can be met: it is in the picture, and what it pushes has room
+pub record Meetable (p : List ℕ) (w h : ℕ) (r : Row) (f t : ℕ) (s : List ℕ) (sp : ℕ) : Type 0 where
+  pub sized : Sized p w h
+  pub order : r .left ≤ r .right
+  pub wide : r .right < w
+  pub deep : r .y < h
+  pub room : length (meet w h f t p r (held s sp) .stack) ≤ length s
+
+-- it is met: from the picture p and the first sp entries of s that leaves p′ and the first sp′ entries of s′
+pub record Meets (w h f t : ℕ) (p s : List ℕ) (sp : ℕ) (r : Row) (p′ s′ : List ℕ) (sp′ : ℕ) : Type 0 where
+  pub is : meet w h f t p r (held s sp) ≡ turned p′ (held s′ sp′) (r ∷ [])
 
 -- a step can be taken: there is an entry, all entries are in the picture, and what the step pushes has room
 pub record Steppable (p : List ℕ) (w h f t : ℕ) (s : List ℕ) (sp : ℕ) : Type 0 where

@@ -1,10 +1,11 @@
 // The row that holds a pixel: its two ends, and its paint.
 ghost use mathlib.Core.Path.{_≡_};
 ghost use Prim.Native.Nat.{_+_, _*_, _-_, _<_, _≤_};
-ghost use Rattle.fill.specs.Order.{leftEnd, rightEnd, paintRun};
+ghost use Rattle.fill.specs.Order.{leftEnd, rightEnd, rowAt, paintRun};
+use pieces::Row;
 
 // The leftmost column that is reached from x over bytes `from`, on the line y, which starts at base.
-pub fn leftmost(pic: &[u8], w: usize, y: usize, base: usize, x: usize, from: u8) -> usize
+fn leftmost(pic: &[u8], w: usize, y: usize, base: usize, x: usize, from: u8) -> usize
     requires { do ⌜ (base ≡ y * w) × (base + x < (← ⟦pic.len()⟧)) ⌝ }
     ensures { λ r. ⌜ r ≡ leftEnd (now (pic .entry)) w from y x ⌝ }
 {
@@ -20,7 +21,7 @@ pub fn leftmost(pic: &[u8], w: usize, y: usize, base: usize, x: usize, from: u8)
 }
 
 // The rightmost.
-pub fn rightmost(pic: &[u8], w: usize, y: usize, base: usize, x: usize, from: u8) -> usize
+fn rightmost(pic: &[u8], w: usize, y: usize, base: usize, x: usize, from: u8) -> usize
     requires { do ⌜ (base ≡ y * w) × (x < w) × (base + w ≤ (← ⟦pic.len()⟧)) ⌝ }
     ensures { λ r. ⌜ r ≡ rightEnd (now (pic .entry)) w from y x (w - 1 - x) ⌝ }
 {
@@ -33,6 +34,20 @@ pub fn rightmost(pic: &[u8], w: usize, y: usize, base: usize, x: usize, from: u8
         right = k;
     }
     right
+}
+
+// The row of bytes `from` that holds (x, y); the line y starts at base.
+pub fn row_at(pic: &[u8], w: usize, y: usize, base: usize, x: usize, from: u8) -> Row
+    requires { do ⌜ (base ≡ y * w) × (x < w) × (base + w ≤ (← ⟦pic.len()⟧)) ⌝ }
+    ensures { λ r. ⌜ r ≡ rowAt w from (now (pic .entry)) x y ⌝ }
+{
+    let left = leftmost(pic, w, y, base, x, from);
+    let right = rightmost(pic, w, y, base, x, from);
+    Row {
+        left: left,
+        right: right,
+        y: y,
+    }
 }
 
 // Paints n bytes from `at` on.

@@ -1,14 +1,13 @@
 // The step that every fill shares.
 ghost use mathlib.Core.Path.{_≡_};
 ghost use mathlib.Core.List.{[], _∷_};
-ghost use Prim.Native.Nat.{_*_, _<_, _≤_};
+ghost use Prim.Native.Nat.{_*_, _<_};
 ghost use lib.ListN.{length};
 ghost use Rattle.pieces.specs.Picture.{px, pixel};
 ghost use Rattle.fill.specs.Stack.{held};
-ghost use Rattle.fill.specs.Fill.{Sized, Steppable, Steps};
-use crate::runs::leftmost;
+ghost use Rattle.fill.specs.Fill.{Sized, Meetable, Meets, Steppable, Steps};
 use crate::runs::paint_run;
-use crate::runs::rightmost;
+use crate::runs::row_at;
 use crate::seeds::seed_above;
 use crate::seeds::seed_below;
 use pieces::Row;
@@ -29,7 +28,28 @@ pub fn seed(pic: &[u8], w: usize, h: usize, x: usize, y: usize, stack: &mut [u32
     pic[base + x]
 }
 
-// One turn of a fill: takes the last entry, and unless its pixel is painted by now, paints its row and pushes entries for the lines above and below.
+// Paints a row and pushes entries for the lines above and below it. Answers the stack's new size.
+fn meet_row(
+    pic: &mut [u8],
+    w: usize,
+    h: usize,
+    r: Row,
+    from: u8,
+    to: u8,
+    stack: &mut [u32],
+    sp: usize,
+) -> usize
+    requires { ⌜ Meetable (now pic) w h r from to (now stack) sp ⌝ }
+    ensures { λ end. ⌜ Meets w h from to (now (pic .entry)) (now (stack .entry)) sp r (now (pic .exit)) (now (stack .exit)) end ⌝ }
+{
+    let n = r.right - r.left + 1;
+    let base = r.y * w;
+    paint_run(pic, base + r.left, n, to);
+    let top = seed_above(pic, w, h, r.y, r.left, n, from, stack, sp);
+    seed_below(pic, w, h, r.y, r.left, n, from, stack, top)
+}
+
+// One turn of a fill: takes the last entry, and unless its pixel is painted by now, meets its row.
 pub fn fill_step(
     pic: &mut [u8],
     w: usize,
@@ -50,18 +70,7 @@ pub fn fill_step(
     if pic[base + x] != from {
         return Stepped::Passed(at);
     }
-    let left = leftmost(pic, w, y, base, x, from);
-    let right = rightmost(pic, w, y, base, x, from);
-    let n = right - left + 1;
-    paint_run(pic, base + left, n, to);
-    let top = seed_above(pic, w, h, y, left, n, from, stack, at);
-    let end = seed_below(pic, w, h, y, left, n, from, stack, top);
-    Stepped::Met(
-        Row {
-            left: left,
-            right: right,
-            y: y,
-        },
-        end,
-    )
+    let r = row_at(pic, w, y, base, x, from);
+    let end = meet_row(pic, w, h, r, from, to, stack, at);
+    Stepped::Met(r, end)
 }

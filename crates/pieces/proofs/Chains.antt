@@ -1,7 +1,7 @@
 -- Chains: both ends are of the set, they go back, go on, run along a line, and stay in a larger set. Assumes nothing.
 use Prim.Native.Nat.{ℕ, zero, suc, _≤_}
 use native.Mathlib.Omega.{arith}
-use mathlib.Core.Path.{_≡_, sym, subst}
+use mathlib.Core.Path.{sym, subst}
 use mathlib.Core.Logic.{⊎-elim}
 use Rattle.pieces.specs.Chain.{Chain, start, west, east, north, south}
 use Rattle.pieces.specs.Piece.{Pixels}

@@ -2,11 +2,11 @@
 use mathlib.Core.Path.{_≡_, refl, sym, ap, _∙_, subst}
 use mathlib.Core.List.{List, [], _∷_, map}
 use mathlib.Core.Logic.{_⊎_, inl, inr, ⊎-elim}
-use Prim.Native.Nat.{ℕ, zero, suc, _+_, _*_, _-_, _<_, _≤_}
+use Prim.Native.Nat.{ℕ, zero, suc, _<_, _≤_}
 use native.Mathlib.Omega.{arith}
 use lib.ListN.{length}
 use Rattle.pieces.specs.Picture.{Pixel}
-use Rattle.pieces.specs.Count.{Mem, Distinct, Lists, Number}
+use Rattle.pieces.specs.Count.{Mem, Distinct, Number}
 use Rattle.pieces.proofs.Numbers.{same}
 
 module _ {A : Type 0} where

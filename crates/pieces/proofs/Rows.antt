@@ -1,11 +1,10 @@
 -- Rows: two that share a pixel are one, a row reaches as far as its set does, and the pairs that overlap are fewer than the picture's pixels. Assumes nothing.
-use Prim.Native.Nat.{ℕ, suc, _+_, _*_, _-_, _<_, _≤_, max}
+use Prim.Native.Nat.{ℕ, suc, _*_, _-_, _<_, _≤_, max}
 use native.Mathlib.Nat.{mul-comm, suc-mul}
 use native.Mathlib.Omega.{arith}
 use mathlib.Core.Path.{_≡_, refl, sym, ap, _∙_, subst}
 use mathlib.Core.List.{List, map}
-use mathlib.Core.Logic.{_⊎_, inl, inr, ⊎-elim}
-use lib.ListN.{length}
+use mathlib.Core.Logic.{⊎-elim}
 use Rattle.pieces.specs.Picture.{Pixel, pixel}
 use Rattle.pieces.specs.Count.{Mem, Distinct}
 use Rattle.pieces.specs.Chain.{Chain, west, east}

@@ -1,7 +1,7 @@
 -- `paint_and_count` paints its piece and counts as it goes: each need is a law of Counting. Assumes nothing.
-use Prim.Native.Nat.{_+_, _-_, _*_, _<_, _≤_}
+use Prim.Native.Nat.{_<_, _≤_}
 use native.Mathlib.Omega.{arith}
-use mathlib.Core.Path.{_≡_, refl, sym, _∙_}
+use mathlib.Core.Path.{refl}
 use borrow.Author.Needs.{needs}
 use lib.ListN.{length}
 use Rattle.fill.proofs.Filling.{taskOf, room-some, filling-asks, filling-less, end-paints}
@@ -18,11 +18,31 @@ Inv-loop pic₀ w h stack₀ x y to from sp₀ rows₀ pixels₀ pushes₀ pic s
 abbrev μ-loop : tie.MeasureT-loop
 μ-loop pic₀ w h stack₀ x y to from sp₀ rows₀ pixels₀ pushes₀ pic stack sp rows pixels pushes = toDo from pic sp
 
+-- the loop's head and its test, as they stood before the step
+abbrev head : tie.After-fill-step Inv-loop μ-loop → tie.At-loop Inv-loop μ-loop
+head s = s .before .before .before .before
+
+abbrev test : tie.After-fill-step Inv-loop μ-loop → tie.In-loop Inv-loop μ-loop
+test s = s .before .before .before
+
+-- the step, as the arm for a row met sees it, and the other arm
+abbrev met : tie.After-r Inv-loop μ-loop → tie.After-fill-step Inv-loop μ-loop
+met c = c .before .before .before .before .before .before
+
+abbrev passed : tie.After-top Inv-loop μ-loop → tie.After-fill-step Inv-loop μ-loop
+passed c = c .before .before .before .before .before .before
+
+-- the row met is within its line
+within : (c : tie.After-r Inv-loop μ-loop) → let r = c .r .given .0 .0 in (r .left ≤ r .right) × (r .right < head (met c) .before .before .before .before .before .before .before .before .args .w)
+within c = let s = met c in met-in (head s .loop .inv) (test s .loop-test .taken) (s .fill-step .ensures) (c .r .given .1) (search needs) (search needs)
+
 seed-requires : tie.Need-seed-requires Inv-loop μ-loop
 seed-requires c κs = let s = c .before .before .before .before in (s .pre .sized, s .pre .in-x, s .pre .in-y, room-some (s .pre))
 
 loop-holds : tie.Need-loop-holds Inv-loop μ-loop
-loop-holds c = let q = c .before .before .seed in counting-begun (c .before .before .before .before .before .before .before .pre) (q .ensures .0) (search needs) (q .ensures .1)
+loop-holds c =
+    let q = c .before .before .seed in
+    counting-begun (c .before .before .before .before .before .before .before .pre) (q .ensures .0) (search needs) (q .ensures .1)
 
 sub-at : tie.Need-sub-at Inv-loop μ-loop
 sub-at c = search needs
@@ -34,40 +54,53 @@ enum-known-r : tie.Need-enum-known-r Inv-loop μ-loop
 enum-known-r c = search needs
 
 add-rows : tie.Need-add-rows Inv-loop μ-loop
-add-rows c = let l = c .before .before .before .before .before .before .before .before .before .before .before .loop in omega (arith, l .inv .rows-few, pushes-low (l .inv))
+add-rows c = let i = head (met (c .before)) .loop .inv in omega (arith, i .rows-few, pushes-low i)
 
 sub-pixels : tie.Need-sub-pixels Inv-loop μ-loop
-sub-pixels c = met-in (c .before .before .before .before .before .before .before .before .before .before .before .before .loop .inv) (c .before .before .before .before .before .before .before .before .before .before .before .loop-test .taken) (c .before .before .before .before .before .before .before .before .fill-step .ensures) (c .before .before .r .given .1) (search needs) (search needs) .0
+sub-pixels c = within (c .before .before) .0
 
 add-pixels : tie.Need-add-pixels Inv-loop μ-loop
-add-pixels c = let m = met-in (c .before .before .before .before .before .before .before .before .before .before .before .before .loop .inv) (c .before .before .before .before .before .before .before .before .before .before .before .loop-test .taken) (c .before .before .before .before .before .before .before .before .fill-step .ensures) (c .before .before .r .given .1) (search needs) (search needs) in omega (arith, m .0, m .1, c .before .before .before .before .before .before .before .before .before .before .before .before .loop .inv .filling .wide)
+add-pixels c =
+    let i = head (met (c .before .before)) .loop .inv in
+    let m = within (c .before .before) in
+    omega (arith, m .0, m .1, i .filling .wide)
 
 add-pixels-2 : tie.Need-add-pixels-2 Inv-loop μ-loop
 add-pixels-2 c =
-    let m = met-in (c .before .before .before .before .before .before .before .before .before .before .before .before .loop .inv) (c .before .before .before .before .before .before .before .before .before .before .before .loop-test .taken) (c .before .before .before .before .before .before .before .before .fill-step .ensures) (c .before .before .r .given .1) (search needs) (search needs) in
-    let l = c .before .before .before .before .before .before .before .before .before .before .before .before .loop in
-    omega (arith, m .0, m .1, l .inv .filling .wide, l .inv .pixels-few, pushes-low (l .inv))
+    let i = head (met (c .before .before)) .loop .inv in
+    let m = within (c .before .before) in
+    omega (arith, m .0, m .1, i .filling .wide, i .pixels-few, pushes-low i)
 
 sub-pushes : tie.Need-sub-pushes Inv-loop μ-loop
-sub-pushes c = met-kept (c .before .before .before .before .before .before .before .before .before .before .before .before .loop .inv) (c .before .before .before .before .before .before .before .before .before .before .before .loop-test .taken) (c .before .before .before .before .before .before .before .before .fill-step .ensures) (c .before .before .r .given .1)
+sub-pushes c = let s = met (c .before .before) in met-kept (head s .loop .inv) (test s .loop-test .taken) (s .fill-step .ensures) (c .before .before .r .given .1)
 
 add-pushes : tie.Need-add-pushes Inv-loop μ-loop
-add-pushes c = omega (arith, pushes-low (counting-met (c .before .before .before .before .before .before .before .before .before .before .before .before .loop .inv) (c .before .before .before .before .before .before .before .before .before .before .before .loop-test .taken) (c .before .before .before .before .before .before .before .before .fill-step .ensures) (c .before .before .r .given .1) (search needs) (search needs)))
+add-pushes c =
+    let s = met (c .before .before) in
+    omega (arith, pushes-low (counting-met (head s .loop .inv) (test s .loop-test .taken) (s .fill-step .ensures) (c .before .before .r .given .1) (search needs) (search needs)))
 
 loop-less : tie.Need-loop-less Inv-loop μ-loop
-loop-less c = filling-less (c .before .before .before .before .before .before .before .before .before .before .before .before .loop .inv .filling) (c .before .before .before .before .before .before .before .before .before .before .before .loop-test .taken) (steps-as (c .before .before .r .given .1) (c .before .before .before .before .before .before .before .before .fill-step .ensures))
+loop-less c =
+    let s = met (c .before .before) in
+    filling-less (head s .loop .inv .filling) (test s .loop-test .taken) (steps-as (c .before .before .r .given .1) (s .fill-step .ensures))
 
 loop-again : tie.Need-loop-again Inv-loop μ-loop
-loop-again c = counting-met (c .before .before .before .before .before .before .before .before .before .before .before .before .loop .inv) (c .before .before .before .before .before .before .before .before .before .before .before .loop-test .taken) (c .before .before .before .before .before .before .before .before .fill-step .ensures) (c .before .before .r .given .1) (search needs) (search needs)
+loop-again c =
+    let s = met (c .before .before) in
+    counting-met (head s .loop .inv) (test s .loop-test .taken) (s .fill-step .ensures) (c .before .before .r .given .1) (search needs) (search needs)
 
 enum-known-top : tie.Need-enum-known-top Inv-loop μ-loop
 enum-known-top c = search needs
 
 loop-less-2 : tie.Need-loop-less-2 Inv-loop μ-loop
-loop-less-2 c = filling-less (c .before .before .before .before .before .before .before .before .before .before .before .loop .inv .filling) (c .before .before .before .before .before .before .before .before .before .before .loop-test .taken) (steps-as (c .before .top .given .1) (c .before .before .before .before .before .before .before .fill-step .ensures))
+loop-less-2 c =
+    let s = passed (c .before) in
+    filling-less (head s .loop .inv .filling) (test s .loop-test .taken) (steps-as (c .before .top .given .1) (s .fill-step .ensures))
 
 loop-again-2 : tie.Need-loop-again-2 Inv-loop μ-loop
-loop-again-2 c = counting-passed (c .before .before .before .before .before .before .before .before .before .before .before .loop .inv) (c .before .before .before .before .before .before .before .before .before .before .loop-test .taken) (c .before .before .before .before .before .before .before .fill-step .ensures) (c .before .top .given .1) (search needs) (search needs)
+loop-again-2 c =
+    let s = passed (c .before) in
+    counting-passed (head s .loop .inv) (test s .loop-test .taken) (s .fill-step .ensures) (c .before .top .given .1) (search needs) (search needs)
 
 same-length : tie.Need-same-length Inv-loop μ-loop
 same-length c = search needs
@@ -76,7 +109,7 @@ same-length-2 : tie.Need-same-length-2 Inv-loop μ-loop
 same-length-2 c = search needs
 
 returns : tie.Need-returns Inv-loop μ-loop
-returns c = let l = c .before .loop in (end-paints (l .inv .filling) (omega arith), counting-end (l .inv) (omega arith) _ refl refl refl)
+returns c = let i = c .before .loop .inv in (end-paints (i .filling) (omega arith), counting-end i (omega arith) _ refl refl refl)
 
 pub paint-and-count-spec : {M : Type 1} → statement M
 paint-and-count-spec =

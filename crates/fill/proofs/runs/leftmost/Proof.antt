@@ -1,9 +1,7 @@
-use mathlib.Core.Path.{_≡_, refl, sym, ap, _∙_}
-use Prim.Native.Nat.{ℕ, zero, suc, _≤_, _<_, _-_, _+_, _*_}
+-- `leftmost` answers the left end: at each turn the end from where it stands is the end from x. Assumes nothing.
+use Prim.Native.Nat.{_≤_, _-_}
 use native.Mathlib.Omega.{arith}
-use borrow.Author.Needs.{needs}
-use lib.ListN.{length, getD}
-use Rattle.pieces.specs.Picture.{px}
+use mathlib.Core.Path.{_≡_, refl, sym, _∙_}
 use Rattle.fill.specs.Order.{leftEnd}
 use Rattle.fill.proofs.Ends.{left-in-at, left-out-at, left-zero}
 use Rattle.fill.proofs.runs.leftmost.Statement.{statement}
@@ -29,27 +27,22 @@ shared-slice-read-if1 c = omega arith
 
 returns : tie.Need-returns Inv-loop μ-loop
 returns c =
-    let s = c .before .before .before .before in
     let l = c .before .before .before .loop in
-    sym (l .inv .0 ∙ left-out-at (s .args .pic .now) (s .args .w) (s .args .from) (s .args .y) (s .args .base) (s .pre .0) (l .left) (l .left - 1) (omega arith) (c .if1 .taken))
+    sym (l .inv .0 ∙ left-out-at _ _ _ _ _ (c .before .before .before .before .pre .0) (l .left) (l .left - 1) (omega arith) (c .if1 .taken))
 
 loop-less : tie.Need-loop-less Inv-loop μ-loop
 loop-less c = omega arith
 
 loop-again : tie.Need-loop-again Inv-loop μ-loop
-loop-again c = (
-  (let s = c .before .before .before .before in
-      let l = c .before .before .before .loop in
-      l .inv .0 ∙ left-in-at (s .args .pic .now) (s .args .w) (s .args .from) (s .args .y) (s .args .base) (s .pre .0) (l .left) (l .left - 1) (omega arith) (c .if1 .left)),
-  omega arith,
-)
+loop-again c =
+    let l = c .before .before .before .loop in
+    (l .inv .0 ∙ left-in-at _ _ _ _ _ (c .before .before .before .before .pre .0) (l .left) (l .left - 1) (omega arith) (c .if1 .left), omega arith)
 
 returns-2 : tie.Need-returns-2 Inv-loop μ-loop
 returns-2 c =
-    let s = c .before .before in
     let l = c .before .loop in
     let z : l .left ≡ 0 = omega arith in
-    sym (l .inv .0 ∙ ap (leftEnd (s .args .pic .now) (s .args .w) (s .args .from) (s .args .y)) z ∙ left-zero _ _ _ _ ∙ sym z)
+    rw (l .inv .0, z, left-zero)
 
 pub leftmost-spec : {M : Type 1} → statement M
 leftmost-spec =

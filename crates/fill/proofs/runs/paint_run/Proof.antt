@@ -1,10 +1,9 @@
-use mathlib.Core.Path.{_≡_, refl, sym, ap, _∙_, subst}
-use mathlib.Core.List.{List, [], _∷_}
-use mathlib.Core.Bool.{Bool, true, false}
-use Prim.Native.Nat.{ℕ, zero, suc, _≤_, _<_, _-_, _+_, _*_}
+-- `paint_run` paints n bytes, the k first of them after k turns. Assumes nothing.
+use Prim.Native.Nat.{ℕ, _≤_, _+_, _-_}
 use native.Mathlib.Omega.{arith}
-use borrow.Author.Needs.{needs}
-use lib.ListN.{length, getD, set, length-set}
+use mathlib.Core.Path.{_≡_, refl, ap, _∙_}
+use mathlib.Core.List.{List}
+use lib.ListN.{length, set, length-set}
 use Rattle.fill.specs.Order.{paintRun}
 use Rattle.fill.proofs.Painted.{paint-none, paint-more}
 use Rattle.fill.proofs.runs.paint_run.Statement.{statement}
@@ -17,7 +16,7 @@ abbrev μ-loop : tie.MeasureT-loop
 μ-loop pic₀ at n to k₀ pic k = n - k
 
 loop-holds : tie.Need-loop-holds Inv-loop μ-loop
-loop-holds c = (paint-none (c .args .pic .now) (c .args .at) (c .args .to), omega arith, refl)
+loop-holds c = (paint-none _ _ _, omega arith, refl)
 
 add-pic : tie.Need-add-pic Inv-loop μ-loop
 add-pic c = omega arith
@@ -35,17 +34,16 @@ loop-again : tie.Need-loop-again Inv-loop μ-loop
 loop-again c =
     let s = c .before .before in
     let l = c .before .loop in
-    (ap (λ (p : List ℕ). set p (s .args .at + l .k) (s .args .to)) (l .inv .0) ∙ paint-more (s .args .pic .now) (s .args .at) (l .k) (s .args .to), omega arith, simp length-set (l .inv .2))
+    (ap (λ (p : List ℕ). set p (s .args .at + l .k) (s .args .to)) (l .inv .0) ∙ paint-more _ _ _ _, omega arith, simp length-set (l .inv .2))
 
 same-length : tie.Need-same-length Inv-loop μ-loop
 same-length c = omega arith
 
 returns : tie.Need-returns Inv-loop μ-loop
 returns c =
-    let s = c .before .before in
     let l = c .before .loop in
-    let z : l .k ≡ s .args .n = omega arith in
-    l .inv .0 ∙ ap (λ (k : ℕ). paintRun (s .args .pic .now) (s .args .at) k (s .args .to)) z
+    let z : l .k ≡ c .before .before .args .n = omega arith in
+    rw (← z) (l .inv .0)
 
 pub paint-run-spec : {M : Type 1} → statement M
 paint-run-spec =

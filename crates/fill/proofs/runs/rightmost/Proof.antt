@@ -1,11 +1,7 @@
-use mathlib.Core.Path.{_≡_, refl, sym, ap, _∙_, subst}
-use mathlib.Core.List.{List, [], _∷_}
-use mathlib.Core.Bool.{Bool, true, false}
-use Prim.Native.Nat.{ℕ, zero, suc, _≤_, _<_, _-_, _+_, _*_}
+-- `rightmost` answers the right end: at each turn the end from where it stands is the end from x. Assumes nothing.
+use Prim.Native.Nat.{_≤_, _<_, _+_, _-_}
 use native.Mathlib.Omega.{arith}
-use borrow.Author.Needs.{needs}
-use lib.ListN.{length, getD, set, length-set}
-use Rattle.pieces.specs.Picture.{px}
+use mathlib.Core.Path.{_≡_, refl, sym, _∙_}
 use Rattle.fill.specs.Order.{rightEnd}
 use Rattle.fill.proofs.Ends.{right-in-at, right-out-at, right-zero}
 use Rattle.fill.proofs.runs.rightmost.Statement.{statement}
@@ -36,28 +32,24 @@ returns : tie.Need-returns Inv-loop μ-loop
 returns c =
     let s = c .before .before .before .before in
     let l = c .before .before .before .loop in
-    let m = s .args .w - 1 - l .right in
-    sym (l .inv .0 ∙ right-out-at (s .args .pic .now) (s .args .w) (s .args .from) (s .args .y) (s .args .base) (s .pre .0) (l .right) (l .right + 1) m (m - 1) (omega arith) (omega arith) (c .if1 .taken))
+    let n = s .args .w - 1 - l .right in
+    sym (l .inv .0 ∙ right-out-at _ _ _ _ _ (s .pre .0) (l .right) (l .right + 1) n (n - 1) (omega arith) (omega arith) (c .if1 .taken))
 
 loop-less : tie.Need-loop-less Inv-loop μ-loop
 loop-less c = omega arith
 
 loop-again : tie.Need-loop-again Inv-loop μ-loop
-loop-again c = (
-  (let s = c .before .before .before .before in
-      let l = c .before .before .before .loop in
-      let m = s .args .w - 1 - l .right in
-      l .inv .0 ∙ right-in-at (s .args .pic .now) (s .args .w) (s .args .from) (s .args .y) (s .args .base) (s .pre .0) (l .right) (l .right + 1) m (s .args .w - 1 - (l .right + 1)) (omega arith) (omega arith) (c .if1 .left)),
-  omega arith,
-  omega arith,
-)
+loop-again c =
+    let s = c .before .before .before .before in
+    let l = c .before .before .before .loop in
+    let e = right-in-at _ _ _ _ _ (s .pre .0) (l .right) (l .right + 1) (s .args .w - 1 - l .right) (s .args .w - 1 - (l .right + 1)) (omega arith) (omega arith) (c .if1 .left) in
+    (l .inv .0 ∙ e, omega arith, omega arith)
 
 returns-2 : tie.Need-returns-2 Inv-loop μ-loop
 returns-2 c =
-    let s = c .before .before in
     let l = c .before .loop in
-    let z : s .args .w - 1 - l .right ≡ 0 = omega arith in
-    sym (l .inv .0 ∙ ap (rightEnd (s .args .pic .now) (s .args .w) (s .args .from) (s .args .y) (l .right)) z ∙ right-zero (s .args .pic .now) (s .args .w) (s .args .from) (s .args .y) (l .right))
+    let z : c .before .before .args .w - 1 - l .right ≡ 0 = omega arith in
+    rw (l .inv .0, z, right-zero)
 
 pub rightmost-spec : {M : Type 1} → statement M
 rightmost-spec =

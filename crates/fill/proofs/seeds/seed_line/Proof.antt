@@ -1,16 +1,17 @@
-use mathlib.Core.Path.{_≡_, refl, sym, ap, _∙_, subst}
-use mathlib.Core.List.{List, [], _∷_}
-use mathlib.Core.Bool.{Bool, true, false}
-use Prim.Native.Nat.{ℕ, zero, suc, _≤_, _<_, _-_, _+_, _*_}
+-- `seed_line` scans a line as the rule does: what is left of the scan, from where it stands, gives what the whole gives. Assumes nothing.
+use Prim.Native.Nat.{_≤_, _<_, _+_, _-_}
 use native.Mathlib.Omega.{arith}
-use borrow.Author.Tests.{not-true, not-false}
 use native.Mathlib.Nat.{add-zero, sub-zero}
-use lib.ListN.{length, getD, set, length-set}
+use mathlib.Core.Path.{_≡_, refl, ap, _∙_}
+use mathlib.Core.List.{List, _∷_}
+use mathlib.Core.Bool.{true, false}
+use lib.ListN.{length, length-set}
+use borrow.Author.Tests.{not-true, not-false}
 use Rattle.pieces.specs.Picture.{Pixel, pixel}
 use Rattle.fill.specs.Order.{seeds}
 use Rattle.fill.specs.Stack.{held}
-use Rattle.fill.proofs.Entries.{held-length, held-push}
 use Rattle.fill.proofs.Scan.{seeds-off-at, seeds-on-at, seeds-new-at, seeds-end, seeds-grow}
+use Rattle.fill.proofs.Entries.{held-length, held-push}
 use Rattle.fill.proofs.seeds.seed_line.Statement.{statement}
 use Rattle.fill.proofs.seeds.seed_line.Tie as tie
 
@@ -21,25 +22,23 @@ Inv-loop pic w y base left n from stack₀ sp top₀ on₀ k₀ stack top on k =
 abbrev μ-loop : tie.MeasureT-loop
 μ-loop pic w y base left n from stack₀ sp top₀ on₀ k₀ stack top on k = n - k
 
--- a column at which bytes begin: what is put on, and that there is room
-new : (c : tie.Then2 Inv-loop μ-loop) (acc : List Pixel)
-    → let s = c .before .before .before .before .before in
+-- where bytes begin: what the stack st with the new entry leaves to scan, and that there is room for it
+begins : (c : tie.Then2 Inv-loop μ-loop) (st : List Pixel)
+    → let s = c .before .before .before .before .before .args in
     let l = c .before .before .before .before .loop in
-    acc ≡ pixel (s .args .left + l .k) (s .args .y) ∷ held (l .stack) (l .top)
-    → seeds (λ e. pixel e (s .args .y)) (s .args .pic .now) (s .args .w) (s .args .from) (s .args .y) (s .args .left + l .k) (s .args .n - l .k) (l .on) (held (l .stack) (l .top))
-    ≡ seeds (λ e. pixel e (s .args .y)) (s .args .pic .now) (s .args .w) (s .args .from) (s .args .y) (s .args .left + (l .k + 1)) (s .args .n - (l .k + 1)) true acc
-new c acc q =
-    let s = c .before .before .before .before .before in
-    let l = c .before .before .before .before .loop in
-    seeds-new-at (s .args .pic .now) (s .args .w) (s .args .from) (s .args .y) (λ e. pixel e (s .args .y)) (s .args .base) (s .pre .0 .0) (s .args .left + l .k) (s .args .left + (l .k + 1)) (s .args .n - l .k) (s .args .n - (l .k + 1)) (l .on) (held (l .stack) (l .top)) acc (not-true _ (c .if2 .taken)) q (omega arith) (omega arith) (c .before .if1 .left)
+    st ≡ pixel (s .left + l .k) (s .y) ∷ held (l .stack) (l .top)
+    → seeds (λ e. pixel e (s .y)) (s .pic .now) (s .w) (s .from) (s .y) (s .left + l .k) (s .n - l .k) (l .on) (held (l .stack) (l .top))
+    ≡ seeds (λ e. pixel e (s .y)) (s .pic .now) (s .w) (s .from) (s .y) (s .left + (l .k + 1)) (s .n - (l .k + 1)) true st
+begins c st q = seeds-new-at _ _ _ _ _ _ (c .before .before .before .before .before .pre .0 .0) _ _ _ _ _ _ _ (not-true _ (c .if2 .taken)) q (omega arith) (omega arith) (c .before .if1 .left)
 
 room : (c : tie.Then2 Inv-loop μ-loop) → c .before .before .before .before .loop .top < length (c .before .before .before .before .loop .stack)
 room c =
     let s = c .before .before .before .before .before in
     let l = c .before .before .before .before .loop in
-    let acc = pixel (s .args .left + l .k) (s .args .y) ∷ held (l .stack) (l .top) in
-    let g = seeds-grow (s .args .pic .now) (s .args .w) (s .args .from) (s .args .y) (λ e. pixel e (s .args .y)) (s .args .left + (l .k + 1)) (s .args .n - (l .k + 1)) true acc in
-    omega (arith, ap length (new c acc refl), ap length (l .inv .0), s .pre .1, held-length (l .stack) (l .top), l .inv .2)
+    let a = s .args in
+    let st = pixel (a .left + l .k) (a .y) ∷ held (l .stack) (l .top) in
+    let grow = seeds-grow (a .pic .now) (a .w) (a .from) (a .y) (λ e. pixel e (a .y)) (a .left + (l .k + 1)) (a .n - (l .k + 1)) true st in
+    omega (arith, ap length (begins c st refl), ap length (l .inv .0), s .pre .1, held-length (l .stack) (l .top), l .inv .2)
 
 loop-holds : tie.Need-loop-holds Inv-loop μ-loop
 loop-holds c = (simp (add-zero, sub-zero), omega arith, refl)
@@ -60,13 +59,9 @@ loop-less : tie.Need-loop-less Inv-loop μ-loop
 loop-less c = omega arith
 
 loop-again : tie.Need-loop-again Inv-loop μ-loop
-loop-again c = (
-  (let s = c .before .before .before .before in
-      let l = c .before .before .before .loop in
-      l .inv .0 ∙ seeds-off-at (s .args .pic .now) (s .args .w) (s .args .from) (s .args .y) (λ e. pixel e (s .args .y)) (s .args .base) (s .pre .0 .0) (s .args .left + l .k) (s .args .left + (l .k + 1)) (s .args .n - l .k) (s .args .n - (l .k + 1)) (l .on) (held (l .stack) (l .top)) (omega arith) (omega arith) (c .if1 .taken)),
-  omega arith,
-  omega arith,
-)
+loop-again c =
+    let l = c .before .before .before .loop in
+    (l .inv .0 ∙ seeds-off-at _ _ _ _ _ _ (c .before .before .before .before .pre .0 .0) _ _ _ _ _ _ (omega arith) (omega arith) (c .if1 .taken), omega arith, omega arith)
 
 mul-stack : tie.Need-mul-stack Inv-loop μ-loop
 mul-stack c = omega arith
@@ -90,35 +85,28 @@ loop-less-2 : tie.Need-loop-less-2 Inv-loop μ-loop
 loop-less-2 c = omega arith
 
 loop-again-2 : tie.Need-loop-again-2 Inv-loop μ-loop
-loop-again-2 c = (
-  (let s = c .before .before .before .before .before in
-      let l = c .before .before .before .before .loop in
-      l .inv .0 ∙ new c (held (set (l .stack) (l .top) (s .args .y * 1024 + (s .args .left + l .k))) (l .top + 1)) (held-push (l .stack) (l .top) (s .args .left + l .k) (s .args .y) (l .top + 1) (room c) (omega arith) (omega arith))),
-  omega arith,
-  simp length-set (c .before .before .before .before .loop .inv .2),
-)
+loop-again-2 c =
+    let l = c .before .before .before .before .loop in
+    let e = begins c _ (held-push (l .stack) (l .top) _ _ (l .top + 1) (room c) (omega arith) (omega arith)) in
+    (l .inv .0 ∙ e, omega arith, simp length-set (l .inv .2))
 
 loop-less-3 : tie.Need-loop-less-3 Inv-loop μ-loop
 loop-less-3 c = omega arith
 
 loop-again-3 : tie.Need-loop-again-3 Inv-loop μ-loop
-loop-again-3 c = (
-  (let s = c .before .before .before .before .before in
-      let l = c .before .before .before .before .loop in
-      l .inv .0 ∙ seeds-on-at (s .args .pic .now) (s .args .w) (s .args .from) (s .args .y) (λ e. pixel e (s .args .y)) (s .args .base) (s .pre .0 .0) (s .args .left + l .k) (s .args .left + (l .k + 1)) (s .args .n - l .k) (s .args .n - (l .k + 1)) (l .on) (held (l .stack) (l .top)) (not-false _ (c .if2 .left)) (omega arith) (omega arith) (c .before .if1 .left)),
-  omega arith,
-  omega arith,
-)
+loop-again-3 c =
+    let l = c .before .before .before .before .loop in
+    let at-base = c .before .before .before .before .before .pre .0 .0 in
+    (l .inv .0 ∙ seeds-on-at _ _ _ _ _ _ at-base _ _ _ _ _ _ (not-false _ (c .if2 .left)) (omega arith) (omega arith) (c .before .if1 .left), omega arith, omega arith)
 
 same-length : tie.Need-same-length Inv-loop μ-loop
 same-length c = omega arith
 
 returns : tie.Need-returns Inv-loop μ-loop
 returns c =
-    let s = c .before .before in
     let l = c .before .loop in
-    let z : s .args .n - l .k ≡ 0 = omega arith in
-    sym (l .inv .0 ∙ ap (λ (m : ℕ). seeds (λ e. pixel e (s .args .y)) (s .args .pic .now) (s .args .w) (s .args .from) (s .args .y) (s .args .left + l .k) m (l .on) (held (l .stack) (l .top))) z ∙ seeds-end (s .args .pic .now) (s .args .w) (s .args .from) (s .args .y) (λ e. pixel e (s .args .y)) (s .args .left + l .k) (l .on) (held (l .stack) (l .top)))
+    let z : c .before .before .args .n - l .k ≡ 0 = omega arith in
+    rw (l .inv .0, z, seeds-end)
 
 pub seed-line-spec : {M : Type 1} → statement M
 seed-line-spec =

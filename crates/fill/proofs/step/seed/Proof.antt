@@ -1,23 +1,16 @@
 -- `seed` leaves the seed alone on the stack. Assumes nothing.
-use Prim.Native.Nat.{ℕ, _+_, _*_, _<_}
 use native.Mathlib.Omega.{arith}
 use mathlib.Core.Path.{refl, ap, _∙_}
 use mathlib.Core.List.{List, _∷_}
-use lib.ListN.{length}
 use borrow.Author.Needs.{needs}
 use Rattle.pieces.specs.Picture.{Pixel, pixel}
-use Rattle.pieces.proofs.Index.{in-picture}
-use Rattle.fill.specs.Fill.{Sized}
+use Rattle.fill.proofs.Inside.{pixel-inside}
 use Rattle.fill.proofs.Entries.{held-none, held-push}
 use Rattle.fill.proofs.step.seed.Statement.{statement}
 use Rattle.fill.proofs.step.seed.Tie as tie
 
--- the seed is in the picture
-inside : {p : List ℕ} {w h x y n : ℕ} → Sized p w h × (x < w) × (y < h) × (0 < n) → y * w + x < length p
-inside {p} {w} {h} {x} {y} q = in-picture w h p (q .0 .size) x y (q .1) (q .2)
-
 mul-base : tie.Need-mul-base
-mul-base c = let i = inside (c .pre) in omega (arith, c .good)
+mul-base c = let i = c .pre in omega (arith, pixel-inside (i .0) _ _ (i .1) (i .2), c .good)
 
 mul-stack : tie.Need-mul-stack
 mul-stack c = search needs
@@ -32,10 +25,10 @@ slice-write-stack : tie.Need-slice-write-stack
 slice-write-stack c = search needs
 
 add-result : tie.Need-add-result
-add-result c = let i = inside (c .pre) in omega (arith, c .good)
+add-result c = let i = c .pre in omega (arith, pixel-inside (i .0) _ _ (i .1) (i .2), c .good)
 
 shared-slice-read-result : tie.Need-shared-slice-read-result
-shared-slice-read-result c = inside (c .before .pre)
+shared-slice-read-result c = let i = c .before .pre in pixel-inside (i .0) _ _ (i .1) (i .2)
 
 same-length : tie.Need-same-length
 same-length c = search needs
@@ -44,7 +37,7 @@ returns : tie.Need-returns
 returns c =
     let s = c .before in
     let i = s .pre in
-    (refl, held-push (s .args .stack .now) 0 (s .args .x) (s .args .y) 1 (i .3) (omega (arith, i .1, i .0 .wide)) refl ∙ ap (λ (st : List Pixel). pixel (s .args .x) (s .args .y) ∷ st) (held-none _))
+    (refl, held-push (s .args .stack .now) 0 _ _ 1 (i .3) (omega (arith, i .1, i .0 .wide)) refl ∙ ap (λ (st : List Pixel). pixel (s .args .x) (s .args .y) ∷ st) (held-none _))
 
 pub seed-spec : {M : Type 1} → statement M
 seed-spec =
