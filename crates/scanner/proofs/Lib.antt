@@ -1,0 +1,4 @@
+mod RunEnds
+pub mod Ahead
+pub mod Alike
+pub mod Dark
