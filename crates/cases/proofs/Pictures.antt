@@ -4,6 +4,8 @@ use native.Mathlib.Omega.{arith}
 use mathlib.Core.Path.{_≡_, refl}
 use Rattle.pieces.specs.Chain.{start, west, east, north, south}
 use Rattle.pieces.specs.Piece.{Piece}
+use mathlib.Core.List.{zipWith}
+use Rattle.prepare.specs.Threshold.{thresholded, rows, shaded, shade, sums, fromRight, along, step}
 use Rattle.fill.specs.Order.{leftEnd, rightEnd, rowAt, paintRun, paintRow, seeds, above, below, seeded, meet, turn, turns, filled}
 use Rattle.fill.specs.Fold.{folded}
 use Rattle.cases.specs.Case.{AllHold}
@@ -18,5 +20,5 @@ alone (north c s) = absurd (omega (arith, alone c .1))
 alone (south {a} {b} c s) = let at = alone c in let white = s .2 in absurd (omega (arith, rw (at .0, at .1) at white))
 
 pub pictures-hold : AllHold pictures
-unfolding AllHold pictures leftEnd rightEnd rowAt paintRun paintRow seeds above below seeded meet turn turns filled folded
-pictures-hold = (refl, (refl, (refl, (refl, (refl, (refl, ((λ c. omega (arith, alone c .0)), tt)))))))
+unfolding AllHold pictures zipWith thresholded rows shaded shade sums fromRight along step leftEnd rightEnd rowAt paintRun paintRow seeds above below seeded meet turn turns filled folded
+pictures-hold = (refl, (refl, (refl, (refl, (refl, (refl, (refl, (refl, (refl, ((λ c. omega (arith, alone c .0)), tt))))))))))

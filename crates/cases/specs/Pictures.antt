@@ -1,13 +1,21 @@
 -- Document 01's examples of pictures and paint. Assumes nothing.
-use Prim.Native.Nat.{ℕ}
-use mathlib.Core.List.{List, [], _∷_}
-use lib.ListN.{length}
+use Prim.Native.Nat.{ℕ, _*_, _/_}
+use mathlib.Core.List.{List, [], _∷_, _++_}
+use lib.ListN.{length, getD, replicate}
 use Rattle.pieces.specs.Piece.{Piece}
 use Rattle.picture.specs.Colour.{colourOf}
 use Rattle.picture.specs.declared.PixelColor.the-variants.{Tmp1, Discarded}
+use Rattle.prepare.specs.Threshold.{span, sums, thresholded}
 use Rattle.fill.specs.Order.{rowsMet, entriesPushed}
 use Rattle.fill.specs.Fold.{folded, widthMore}
 use Rattle.cases.specs.Case.{Case, _answers_, states}
+
+-- a 16 x 1 grey line, all 200 but pixel 8 = 0, and the line with pixel 8 alone black
+abbrev grey : List ℕ
+grey = replicate 8 200 ++ (0 ∷ replicate 7 200)
+
+abbrev spot : List ℕ
+spot = replicate 8 0 ++ (1 ∷ replicate 7 0)
 
 -- rows 101 / 111, and rows 10 / 01
 abbrev arch : List ℕ
@@ -22,6 +30,11 @@ pictures =
     (colourOf 4 answers Tmp1)
     ∷ (colourOf 5 answers Discarded 0)
     ∷ (colourOf 255 answers Discarded 250)
+    -- a 16 x 1 grey line, all 200 but pixel 8 = 0: its sum is 397, limit 94
+    ∷ (getD (sums (span 16) 0 0 grey) 8 0 answers 397)
+    ∷ (397 * 95 / (200 * span 16) answers 94)
+    -- only pixel 8 is black
+    ∷ (thresholded 16 1 grey answers spot)
     -- rows 101 / 111 from (0,0): 5 pixels, 3 rows, 3 pushes
     ∷ (folded widthMore 0 (rowsMet arch 3 2 0 0 2) answers 5)
     ∷ (length (rowsMet arch 3 2 0 0 2) answers 3)
