@@ -1,0 +1,126 @@
+-- What the calls on points answer, in terms of the crates that they lead to. Assumes nothing.
+use Prim.Native.Nat.{ℕ, _-_}
+use mathlib.Core.List.{List, [], _∷_}
+use mathlib.Core.Bool.{Bool, not, _&&_}
+use lib.Signed.{leZ}
+use lib.IntN.{ℤ, pos, negℤ}
+use lib.Ieee.{Float, nan}
+use lib.ListN.{length, getD}
+use Rattle.refusals.specs.Finding.{Finding, found, refused, refusedBy}
+use Rattle.refusals.specs.First.{Test, first, _when_}
+use Rattle.refusals.specs.Limits.{longestSide, farthest}
+use Rattle.refusals.specs.declared.Refusal.the-variants as refusal
+use Rattle.points.specs.declared.Point.{Point}
+use Rattle.rounding.specs.Nearest.{nearestOf}
+use Rattle.rounding.specs.declared.Whole.{Whole}
+use Rattle.rounding.specs.declared.Whole.the-variants.{At, Off}
+use Rattle.lines.specs.Meet.{meetOf}
+use Rattle.lines.specs.declared.Meet.{Meet}
+use Rattle.lines.specs.declared.Meet.the-variants as meet
+use Rattle.scans.specs.Scan.{scanOf}
+use Rattle.scans.specs.Points.{points}
+use Rattle.geometry.specs.Create.{sightOf}
+use Rattle.geometry.specs.Map.{mapped}
+use Rattle.geometry.specs.Unmap.{unmapped}
+use Rattle.geometry.specs.declared.Perspective.{Perspective}
+use Rattle.geometry.specs.declared.GridPoint.{GridPoint}
+use Rattle.geometry.specs.declared.Sight.{Sight}
+use Rattle.geometry.specs.declared.Sight.the-variants.{Made, Flat}
+use Rattle.exports.specs.Answer.{Values, these, nothing, fewerThan}
+
+-- the point whose coordinates stand at the places i and j
+unfoldable pub pointAt : List ℤ → ℕ → ℕ → Point
+pointAt ns i j = record { x = getD ns i (pos 0); y = getD ns j (pos 0) }
+
+-- a perspective that is lent as its eight coefficients
+unfoldable pub perspectiveAt : List Float → Perspective
+perspectiveAt cs = record {
+  c0 = getD cs 0 nan;
+  c1 = getD cs 1 nan;
+  c2 = getD cs 2 nan;
+  c3 = getD cs 3 nan;
+  c4 = getD cs 4 nan;
+  c5 = getD cs 5 nan;
+  c6 = getD cs 6 nan;
+  c7 = getD cs 7 nan;
+}
+
+-- a whole number, or 13
+unfoldable pub wholeValues : Whole → Finding (Values ℤ)
+wholeValues (At z) = found (these (z ∷ []))
+wholeValues Off = refusedBy refusal.Unplaced
+
+-- x and y, or a refusal's number
+unfoldable pub placeValues : Finding Point → Finding (Values ℤ)
+placeValues (found p) = found (these (p .x ∷ p .y ∷ []))
+placeValues (refused n) = refused n
+
+-- eight coefficients, or nothing
+unfoldable pub sightValues : Sight → Finding (Values Float)
+sightValues (Made p) = found (these (p .c0 ∷ p .c1 ∷ p .c2 ∷ p .c3 ∷ p .c4 ∷ p .c5 ∷ p .c6 ∷ p .c7 ∷ []))
+sightValues Flat = found nothing
+
+-- u and v
+unfoldable pub gridValues : GridPoint → Finding (Values Float)
+gridValues g = found (these (g .u ∷ g .v ∷ []))
+
+-- the whole number nearest to x
+unfoldable pub roundAnswer : Float → ℕ → Finding (Values ℤ)
+roundAnswer x room = first (fewerThan 1 room ∷ []) (wholeValues (nearestOf x))
+
+-- the perspective of four corners, lent as x0 y0 .. x3 y3
+unfoldable pub createAnswer : List ℤ → Float → Float → ℕ → Finding (Values Float)
+createAnswer ns w h room =
+    first (fewerThan 8 (length ns) ∷ fewerThan 8 room ∷ [])
+    (sightValues (sightOf (pointAt ns 0 1) (pointAt ns 2 3) (pointAt ns 4 5) (pointAt ns 6 7) w h))
+
+-- where (u, v) lies under a perspective
+unfoldable pub mapAnswer : List Float → Float → Float → ℕ → Finding (Values ℤ)
+mapAnswer cs u v room = first (fewerThan 8 (length cs) ∷ fewerThan 2 room ∷ []) (placeValues (mapped (perspectiveAt cs) u v))
+
+-- what lies at a point under a perspective
+unfoldable pub unmapAnswer : List Float → ℤ → ℤ → ℕ → Finding (Values Float)
+unmapAnswer cs x y room =
+    first (fewerThan 8 (length cs) ∷ fewerThan 2 room ∷ []) (gridValues (unmapped (perspectiveAt cs) (record { x = x; y = y })))
+
+-- z is neither below low nor above high
+unfoldable pub between : ℤ → ℤ → ℤ → Bool
+between low z high = leZ low z && leZ z high
+
+-- a coordinate of p is not from low to high
+unfoldable pub leaves : Point → ℤ → ℤ → Bool
+leaves p low high = not (between low (p .x) high && between low (p .y) high)
+
+-- 12: a point that is no pixel of any picture
+abbrev pub noPixel : Point → Test
+noPixel p = refusal.Far when leaves p (pos 0) (pos (longestSide - 1))
+
+-- 12: a point that is further out than a stated point may be
+abbrev pub tooFar : Point → Test
+tooFar p = refusal.Far when leaves p (negℤ (pos farthest)) (pos farthest)
+
+-- x and y, or nothing
+unfoldable pub meetValues : Meet → Finding (Values ℤ)
+meetValues (meet.At p) = found (these (p .x ∷ p .y ∷ []))
+meetValues meet.Nowhere = found nothing
+
+-- where two lines cross, for points that are pixels (12)
+unfoldable pub crossValues : Point → Point → Point → Point → Finding (Values ℤ)
+crossValues p0 p1 q0 q1 =
+    first (noPixel p0 ∷ noPixel p1 ∷ noPixel q0 ∷ noPixel q1 ∷ []) (meetValues (meetOf p0 p1 q0 q1))
+
+-- the same for four points, lent as x0 y0 .. x3 y3
+unfoldable pub crossAnswer : List ℤ → ℕ → Finding (Values ℤ)
+crossAnswer ns room =
+    first (fewerThan 8 (length ns) ∷ fewerThan 2 room ∷ []) (crossValues (pointAt ns 0 1) (pointAt ns 2 3) (pointAt ns 4 5) (pointAt ns 6 7))
+
+-- points as numbers, x before y
+unfoldable pub flat : List Point → List ℤ
+flat [] = []
+flat (p ∷ ps) = p .x ∷ p .y ∷ flat ps
+
+-- every point of a scan, for ends that are near (12), where there are places for all of them (3)
+unfoldable pub scanAnswer : Point → Point → ℕ → Finding (Values ℤ)
+scanAnswer p q room =
+    let seen = flat (points (scanOf p q)) in
+    first (tooFar p ∷ tooFar q ∷ fewerThan (length seen) room ∷ []) (found (these seen))
