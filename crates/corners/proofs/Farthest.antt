@@ -6,22 +6,25 @@ use mathlib.Core.List.{List, [], _∷_, _++_}
 use mathlib.Core.Logic.{_⊎_, inl, inr, ⊎-elim}
 use lib.IntN.{ℤ}
 use lib.Signed.{_≤ℤ_}
+use Rattle.points.specs.Range.{Within}
 use Rattle.points.specs.declared.Point.{Point}
 use Rattle.pieces.specs.Count.{Mem}
 use Rattle.pieces.specs.Chain.{start}
 use Rattle.pieces.specs.Piece.{Piece}
 use Rattle.pieces.specs.Row.{RowOf, InRow}
 use Rattle.pieces.specs.declared.Row.{Row}
+use Rattle.pieces.proofs.Chains.{last-of}
 use Rattle.fill.specs.Order.{State, rowsMet}
 use Rattle.fill.specs.Fold.{folded}
 use Rattle.fill.proofs.Underway.{Task, Valid, Underway, covering}
 use Rattle.fill.proofs.Whole.{piece-covered}
 use Rattle.fill.proofs.Filling.{taskOf, filled-is, underway-end}
 use Rattle.fill.proofs.Laws.{rows-met}
-use Rattle.corners.specs.Rows.{pointAt, leftEnd, rightEnd, byEnds, ends}
+use Rattle.corners.specs.Rows.{Sides, pointAt, leftEnd, rightEnd, byEnds, ends}
 use Rattle.corners.specs.Scores.{distanceOf, leftOf, lineFrom}
 use Rattle.corners.specs.First.{First, Highest, FourWays}
 use Rattle.corners.specs.Finders.{firstCornerFrom, firstCornerSees, allCornersFrom, allCornersSee, leftMostFrom, leftMostSees}
+use Rattle.corners.proofs.Small.{point-within}
 use Rattle.corners.proofs.Extremes.{mem-parts, mem-right}
 use Rattle.corners.proofs.Peaks.{Peaked, distance-peaked, along-peaked, across-peaked, behind-peaked, left-peaked}
 use Rattle.corners.proofs.Ends.{no-pixel-higher}
@@ -101,3 +104,9 @@ module _ {p : List ℕ} {w h x y t : ℕ} (ok : Valid (taskOf p w h x y t)) wher
   -- the leftmost pixel, as looked for from the seed
   pub left-most-farthest : (line : Point) → Highest (Piece p w h x y) (leftOf line) (folded (byEnds leftMostSees) (leftMostFrom line (pointAt x y)) rows .best .place)
   left-most-farthest line = highest-of (left-peaked line) (left-most-found line (pointAt x y) rows) (λ v m. inr m) seed-or-end
+
+-- what is found in a picture's piece is a point of the picture
+pub highest-within : (p : List ℕ) {w h x y : ℕ} {score : Point → ℤ} {q : Point} → Sides w h → Highest (Piece p w h x y) score q → Within q
+highest-within p S H =
+    let k = last-of (H .inside) in
+    rw (H .is) (point-within (omega (arith, k .0)) (omega (arith, k .1)))

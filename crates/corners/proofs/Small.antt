@@ -11,6 +11,7 @@ use Rattle.points.specs.declared.Point.{Point}
 use Rattle.points.specs.Range.{Inside, Within}
 use Rattle.corners.specs.Rows.{pointAt}
 use Rattle.corners.specs.Scores.{Span, Direction, alongOf, acrossOf, lineFrom}
+use Rattle.corners.specs.Finders.{firstCornerFrom, allCornersFrom, leftMostFrom}
 use Rattle.corners.proofs.Signed.{Is, back, is-own, is-answer, is-fits, is-add, is-sub, is-mul}
 
 pub point-within : {x y : ℕ} → x < longestSide → y < longestSide → Within (pointAt x y)
@@ -58,3 +59,16 @@ line-direction P Q =
     let x = is-apart (Q .x) (P .x) .near in
     let y = is-apart (Q .y) (P .y) .near in
     record { x = record { low = omega arith }; y = record { low = omega arith } }
+
+-- so the finders start ready for the rows of a picture
+pub first-corner-ready : {p : Point} → Within p → Within (firstCornerFrom p .initial)
+unfolding firstCornerFrom
+first-corner-ready P = P
+
+pub all-corners-ready : {p q : Point} → Within p → Within q → Direction (allCornersFrom p q .baseline)
+unfolding allCornersFrom
+all-corners-ready P Q = line-direction P Q
+
+pub left-most-ready : {d : Point} (p : Point) → Direction d → Direction (leftMostFrom d p .line)
+unfolding leftMostFrom
+left-most-ready p D = D

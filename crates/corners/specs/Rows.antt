@@ -6,7 +6,7 @@ use Rattle.refusals.specs.Limits.{longestSide}
 use Rattle.points.specs.declared.Point.{Point}
 use Rattle.pieces.specs.declared.Row.{Row}
 
--- a picture's sides
+-- no side is longer than a picture's may be
 pub record Sides (w h : ℕ) : Type 0 where
   pub wide : w ≤ longestSide
   pub tall : h ≤ longestSide

@@ -20,15 +20,15 @@ distanceOf p q =
     let dy = q .y -ℤ p .y in
     dx *ℤ dx +ℤ dy *ℤ dy
 
--- how far p lies in the direction d, in units of d's length
+-- how far p lies in the direction d, times d's length
 unfoldable pub alongOf : Point → Point → ℤ
 alongOf d p = p .x *ℤ d .x +ℤ p .y *ℤ d .y
 
--- how far p lies to the right of the direction d; y counts downwards
+-- how far p lies to the right of the direction d, times d's length; y counts downwards
 unfoldable pub acrossOf : Point → Point → ℤ
 acrossOf d p = p .y *ℤ d .x -ℤ p .x *ℤ d .y
 
--- how far p lies behind, where d leads ahead, and how far to the left
+-- the same, the other way: how far p lies behind, and how far to the left
 unfoldable pub behindOf : Point → Point → ℤ
 behindOf d p = negℤ (alongOf d p)
 
