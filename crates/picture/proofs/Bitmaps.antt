@@ -1,8 +1,8 @@
 -- A bitmap, byte by byte: what the test of the whole says of each, and the test as a run through the bytes makes it. Assumes nothing.
 use Prim.Native.Nat.{ℕ, zero, suc, _+_, _≤_, _<_, max}
-use mathlib.Core.Path.{_≡_, refl, sym, ap, _∙_}
+use mathlib.Core.Path.{_≡_, refl}
 use mathlib.Core.Bool.{Bool, true, false, _&&_, and-assoc}
-use mathlib.Core.List.{List, [], _∷_}
+use mathlib.Core.List.{List, [], _∷_, _++_}
 use native.Mathlib.Omega.{arith}
 use native.Mathlib.Numerals.{add-one}
 use lib.Dec.{leb}
@@ -48,3 +48,8 @@ pub accepts : (pic : List ℕ) (width height : ℕ) → Accepted pic width heigh
 accepts pic width height a =
     let c = sized-clear width height (length pic) (a .sized) in
     first-clear (acceptTests pic width height) sound (c .0, (c .1 .0, (rw (a .bits), tt)))
+
+pub bitmap-append : (p q : List ℕ) → bitmap p ≡ true → bitmap q ≡ true → bitmap (p ++ q) ≡ true
+unfolding bitmap
+bitmap-append [] q e f = f
+bitmap-append (b ∷ p) q e f = let t = both (leb b 1) (bitmap p) e in rw (t .0, bitmap-append p q (t .1) f)

@@ -1,6 +1,6 @@
 -- No average of a picture's bytes is above 255 x s: along a run, at its end, and as it is kept for a row's columns. Assumes nothing.
-use Prim.Native.Nat.{ℕ, zero, suc, _+_, _*_, _^_, _≤_, _<_}
-use mathlib.Core.Path.{_≡_, refl, sym, ap, _∙_}
+use Prim.Native.Nat.{ℕ, zero, suc, _+_, _*_, _≤_}
+use mathlib.Core.Path.{_≡_, sym, ap, _∙_}
 use mathlib.Core.List.{List, [], _∷_, reverse, reverseAux, zipWith}
 use native.Mathlib.Omega.{arith}
 use lib.ListN.{length, getD, take, drop}

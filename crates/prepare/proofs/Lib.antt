@@ -4,3 +4,4 @@ pub mod Shades
 pub mod Bounds
 pub mod Rows
 pub mod Promise
+pub mod Outcome

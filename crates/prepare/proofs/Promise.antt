@@ -1,15 +1,14 @@
 -- What prepare promises, for each answer; and that a promise leaves one answer and one picture. Assumes nothing.
 use Prim.Native.Nat.{ℕ}
-use mathlib.Core.Path.{_≡_, refl, sym, ap, _∙_}
+use mathlib.Core.Path.{_≡_, sym, ap, _∙_}
 use mathlib.Core.List.{List}
-use Rattle.refusals.specs.Finding.{Finding}
 use Rattle.refusals.specs.declared.Refusal.{Refusal}
 use Rattle.picture.specs.Verdict.{judged}
 use Rattle.picture.specs.declared.Verdict.{Verdict}
 use Rattle.picture.specs.declared.Verdict.the-variants.{Sound, Refused}
 use Rattle.picture.proofs.Judged.{judged-only}
 use Rattle.prepare.specs.Threshold.{thresholded}
-use Rattle.prepare.specs.Prepared.{prepareOf, pictureAfter, Prepared}
+use Rattle.prepare.specs.Prepared.{prepareOf, Prepared}
 
 module _ (width height : ℕ) (pic : List ℕ) (v : Verdict) (e : judged v ≡ prepareOf width height pic) where
   -- a refusal leaves the picture

@@ -1,12 +1,12 @@
 -- The threshold with no division: the reciprocal of s stands for the division by s, a product on each side for the comparison. Assumes nothing.
-use Prim.Native.Nat.{ℕ, zero, suc, _+_, _-_, _*_, _/_, _^_, _≤_, _<_}
+use Prim.Native.Nat.{ℕ, _+_, _-_, _*_, _/_, _^_, _≤_, _<_}
 use mathlib.Core.Path.{_≡_, refl, sym, ap, _∙_}
-use mathlib.Core.Bool.{Bool, true, false, cond}
+use mathlib.Core.Bool.{Bool, true, false}
 use native.Mathlib.Omega.{arith}
 use native.Mathlib.Nat.{mul-assoc, mul-comm, mul-le-mul, mul-le-mul-left, div-mul-le-self, lt-div-mul-add, le-of-mul-le-mul-right, lt-of-mul-lt-mul-right, mul-le-mul-right, div-eq-of-lt-le, div-le-of-le-mul, div-lt-iff-lt-mul, le-div-iff-mul-le, mul-div-mul-left}
 use lib.Dec.{ltb, leb}
 use borrow.Author.Tests.{ltb-true, ltb-false, le-leb, lt-leb}
-use Rattle.prepare.specs.Threshold.{step, shade}
+use Rattle.prepare.specs.Threshold.{step}
 
 -- 2^32 x (s - 1) / s, rounded up
 abbrev pub reciprocalOf : ℕ → ℕ
@@ -42,11 +42,6 @@ reciprocal s average some few low =
     (div-mul-le-self ((s - 1) * (2 ^ 32 + 1)) s)
     (lt-div-mul-add some)
 
--- so an average goes one pixel on by a product with the reciprocal
-pub step-by-reciprocal : (s average k pixel : ℕ) → 1 ≤ s → s ≤ 100 → average ≤ 255 * s → k ≡ reciprocalOf s → average * k / 2 ^ 32 + pixel ≡ step s average pixel
-unfolding step
-step-by-reciprocal s average k pixel some few low e = rw (e, reciprocal s average some few low)
-
 pub reciprocal-low : (s : ℕ) → 1 ≤ s → s ≤ 100 → reciprocalOf s < 2 ^ 32
 reciprocal-low s some few = div-lt-iff-lt-mul some .1 (omega arith)
 
@@ -57,6 +52,13 @@ step-low s average pixel some low dark =
     let product : average * (s - 1) ≤ s * (255 * (s - 1)) = rw (← mul-assoc s 255 (s - 1), mul-comm s 255) (mul-le-mul-right (s - 1) low) in
     let quotient : average * (s - 1) / s ≤ 255 * (s - 1) = div-le-of-le-mul s product in
     omega arith
+
+-- so an average goes one pixel on by a product with the reciprocal, and stays low
+pub step-by-reciprocal : (s average k pixel next : ℕ) → 1 ≤ s → s ≤ 100 → average ≤ 255 * s → pixel ≤ 255 → k ≡ reciprocalOf s → next ≡ average * k / 2 ^ 32 + pixel → (next ≡ step s average pixel) × (next ≤ 255 * s)
+unfolding step
+step-by-reciprocal s average k pixel next some few low dark e n =
+    let is : next ≡ step s average pixel = n ∙ rw (e, reciprocal s average some few low) in
+    (is, rw is (step-low s average pixel some low dark))
 
 -- below sum x 95 / (200 x s), with no division
 pub below : (s pixel sum : ℕ) → 1 ≤ s → ltb pixel (sum * 95 / (200 * s)) ≡ leb ((pixel + 1) * (40 * s)) (sum * 19)

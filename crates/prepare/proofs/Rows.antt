@@ -2,13 +2,13 @@
 use Prim.Native.Nat.{ℕ, zero, suc, _+_, _-_, _*_, _≤_, _<_}
 use mathlib.Core.Path.{_≡_, refl, sym, ap, _∙_}
 use mathlib.Core.Bool.{Bool, true, false, cond}
-use mathlib.Core.List.{List, [], _∷_, _++_, reverse, append-assoc, append-nil, zipWith}
+use mathlib.Core.List.{List, [], _++_, reverse, append-assoc, append-nil}
 use native.Mathlib.Omega.{arith}
 use native.Mathlib.Nat.{mul-comm, mul-le-mul-right, sub-zero}
 use lib.ListN.{length, take, drop, length-append, length-drop}
 use lib.Seq.{take-all, take-at, drop-at, length-take-le}
 use Rattle.refusals.specs.Limits.{longestSide}
-use Rattle.prepare.specs.Threshold.{step, after, along, shaded, rows, span, thresholded}
+use Rattle.prepare.specs.Threshold.{after, along, shaded, rows}
 use Rattle.prepare.proofs.Bounds.{Low, low-take, low-drop, low-reverse, after-low}
 
 -- rows in black and white, with the average that runs from the left along the first of them, and the one that runs from the right

@@ -1,14 +1,14 @@
 -- Both averages along a row, one from each end: where the run stands after some columns, one column more, and its end. Assumes nothing.
-use Prim.Native.Nat.{ℕ, zero, suc, _+_, _-_, _*_, _≤_, _<_}
+use Prim.Native.Nat.{ℕ, suc, _+_, _-_, _*_, _≤_, _<_}
 use mathlib.Core.Path.{_≡_, refl, sym, ap, _∙_}
 use mathlib.Core.List.{List, [], _∷_, _++_, reverse, append-assoc, append-nil, reverse-append, reverse-cons}
 use native.Mathlib.Omega.{arith}
 use native.Mathlib.Numerals.{add-one}
-use lib.ListN.{length, getD, take, drop, set, length-set, drop-of-length-le, length-reverse}
-use lib.Seq.{drop-cons, drop-length, take-length, take-suc, take-suc-set, append-snoc, slice, slice-cons, slice-empty, getD-set-same, drop-set-lt, take-set-lt, take-all}
+use lib.ListN.{length, getD, take, drop, set, length-set, length-reverse}
+use lib.Seq.{drop-cons, drop-length, take-length, take-suc, take-suc-set, slice, slice-cons, slice-empty, getD-set-same, drop-set-lt, take-set-lt}
 use Rattle.prepare.specs.Threshold.{step, after, along, fromRight}
 use Rattle.prepare.proofs.Reciprocal.{step-low}
-use Rattle.prepare.specs.Run.{Ready, Kept, endsOf}
+use Rattle.prepare.specs.Run.{Ready, Kept}
 
 pub along-length : (s average : ℕ) (row : List ℕ) → length (along s average row) ≡ length row
 unfolding along

@@ -1,14 +1,13 @@
 -- What an answer says of the tests before it: none applied, or which was the first, and that the later ones don't matter. Assumes nothing.
 use Prim.Native.Nat.{ℕ}
 use mathlib.Core.Path.{_≡_, refl}
-use mathlib.Core.Bool.{Bool, true, false}
+use mathlib.Core.Bool.{true, false}
 use mathlib.Core.List.{List, [], _∷_, _++_}
 use mathlib.Core.Logic.{_⊎_, inl, inr}
 use native.Mathlib.Omega.{arith}
 use Rattle.refusals.specs.Numbers.{numberOf}
-use Rattle.refusals.specs.Finding.{Finding, found, refused, refusedBy}
+use Rattle.refusals.specs.Finding.{Finding, refused}
 use Rattle.refusals.specs.First.{Test, _when_, first, sound}
-use Rattle.refusals.specs.declared.Refusal.{Refusal}
 
 -- none of the tests applies, test by test
 abbrev pub Clear : List Test → Type 0

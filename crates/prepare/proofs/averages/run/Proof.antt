@@ -1,11 +1,11 @@
 -- `run` carries both averages along a row by the reciprocal of s, and keeps them column by column. Assumes nothing.
 use Prim.Native.Nat.{ℕ, _-_, _*_, _^_, _≤_, _<_}
-use mathlib.Core.Path.{_≡_, refl, _∙_}
+use mathlib.Core.Path.{_≡_, refl}
 use native.Mathlib.Omega.{arith}
 use borrow.Author.Needs.{needs}
 use lib.ListN.{length, getD, length-set}
 use Rattle.prepare.specs.Threshold.{step}
-use Rattle.prepare.proofs.Reciprocal.{step-by-reciprocal, reciprocal-low, step-low}
+use Rattle.prepare.proofs.Reciprocal.{step-by-reciprocal, reciprocal-low}
 use Rattle.prepare.proofs.Runs.{Midway, midway-starts, midway-goes-on, midway-ends}
 use Rattle.prepare.proofs.averages.run.Statement.{statement}
 use Rattle.prepare.proofs.averages.run.Tie as tie
@@ -40,22 +40,16 @@ k-low c = rw (c .reciprocal .ensures) (reciprocal-low (entry c .args .s) (entry 
 bytes : (c : tie.After-reciprocal Inv-loop μ-loop) (i : ℕ) → getD (entry c .args .row .now) i 0 ≤ 255
 bytes c i = omega (arith, c .before .before .before .shared-slice-known .given i)
 
--- what the two calls of `next` answer, by the plain rule
-a-next : (c : tie.After-next2 Inv-loop μ-loop) → let s = entry (past c) .args in c .before .before .next .result ≡ step (s .s) (head c .loop .a) (getD (s .row .now) (head c .loop .x) 0)
+-- what the two calls of `next` answer: the plain rule's next averages, which stay low
+a-next : (c : tie.After-next2 Inv-loop μ-loop) → let s = entry (past c) .args in let l = head c .loop in (c .before .before .next .result ≡ step (s .s) (l .a) (getD (s .row .now) (l .x) 0)) × (c .before .before .next .result ≤ 255 * s .s)
 a-next c =
     let s = entry (past c) in
-    c .before .before .next .ensures ∙ step-by-reciprocal (s .args .s) (head c .loop .a) _ _ (s .pre .some) (s .pre .few) (head c .loop .inv .0 .a-low) (past c .reciprocal .ensures)
+    step-by-reciprocal (s .args .s) (head c .loop .a) _ _ _ (s .pre .some) (s .pre .few) (head c .loop .inv .0 .a-low) (bytes (past c) (head c .loop .x)) (past c .reciprocal .ensures) (c .before .before .next .ensures)
 
-b-next : (c : tie.After-next2 Inv-loop μ-loop) → let s = entry (past c) .args in c .next2 .result ≡ step (s .s) (head c .loop .b) (getD (s .row .now) (head c .loop .r - 1) 0)
+b-next : (c : tie.After-next2 Inv-loop μ-loop) → let s = entry (past c) .args in let l = head c .loop in (c .next2 .result ≡ step (s .s) (l .b) (getD (s .row .now) (l .r - 1) 0)) × (c .next2 .result ≤ 255 * s .s)
 b-next c =
     let s = entry (past c) in
-    c .next2 .ensures ∙ step-by-reciprocal (s .args .s) (head c .loop .b) _ _ (s .pre .some) (s .pre .few) (head c .loop .inv .0 .b-low) (past c .reciprocal .ensures)
-
-a-low : (c : tie.After-next2 Inv-loop μ-loop) → c .before .before .next .result ≤ 255 * entry (past c) .args .s
-a-low c = omega (arith, a-next c, step-low (entry (past c) .args .s) (head c .loop .a) (getD (entry (past c) .args .row .now) (head c .loop .x) 0) (entry (past c) .pre .some) (head c .loop .inv .0 .a-low) (bytes (past c) (head c .loop .x)))
-
-b-low : (c : tie.After-next2 Inv-loop μ-loop) → c .next2 .result ≤ 255 * entry (past c) .args .s
-b-low c = omega (arith, b-next c, step-low (entry (past c) .args .s) (head c .loop .b) (getD (entry (past c) .args .row .now) (head c .loop .r - 1) 0) (entry (past c) .pre .some) (head c .loop .inv .0 .b-low) (bytes (past c) (head c .loop .r - 1)))
+    step-by-reciprocal (s .args .s) (head c .loop .b) _ _ _ (s .pre .some) (s .pre .few) (head c .loop .inv .0 .b-low) (bytes (past c) (head c .loop .r - 1)) (past c .reciprocal .ensures) (c .next2 .ensures)
 
 sub-r : tie.Need-sub-r Inv-loop μ-loop
 sub-r c = search needs
@@ -73,7 +67,7 @@ next-requires-2 : tie.Need-next-requires-2 Inv-loop μ-loop
 next-requires-2 c κs = (omega arith, k-low (c .before .before .before .before .before))
 
 cast-lefts : tie.Need-cast-lefts Inv-loop μ-loop
-cast-lefts c = omega (arith, a-low c, entry (past c) .pre .few)
+cast-lefts c = omega (arith, a-next c .1, entry (past c) .pre .few)
 
 mul-lefts : tie.Need-mul-lefts Inv-loop μ-loop
 mul-lefts c = search needs
@@ -82,7 +76,7 @@ slice-write-lefts : tie.Need-slice-write-lefts Inv-loop μ-loop
 slice-write-lefts c = search needs
 
 cast-rights : tie.Need-cast-rights Inv-loop μ-loop
-cast-rights c = omega (arith, b-low c, entry (past c) .pre .few)
+cast-rights c = omega (arith, b-next c .1, entry (past c) .pre .few)
 
 mul-rights : tie.Need-mul-rights Inv-loop μ-loop
 mul-rights c = search needs
@@ -100,7 +94,7 @@ loop-again : tie.Need-loop-again Inv-loop μ-loop
 loop-again c =
     let s = entry (past c) .args in
     let l = head c .loop in (
-      midway-goes-on (s .s) (s .left) (s .right) (s .row .now) (l .lefts) (l .rights) (l .a) (l .b) (l .x) (l .r) (c .before .before .next .result) (c .next2 .result) (entry (past c) .pre .some) (bytes (past c)) (search needs) (a-next c) (b-next c) (l .inv .0),
+      midway-goes-on (s .s) (s .left) (s .right) (s .row .now) (l .lefts) (l .rights) (l .a) (l .b) (l .x) (l .r) (c .before .before .next .result) (c .next2 .result) (entry (past c) .pre .some) (bytes (past c)) (search needs) (a-next c .0) (b-next c .0) (l .inv .0),
       simp length-set (l .inv .1),
       simp length-set (l .inv .2),
     )

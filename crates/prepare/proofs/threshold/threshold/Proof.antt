@@ -1,9 +1,8 @@
 -- `threshold` shades a picture row by row; the averages change sides after each. Assumes nothing.
-use Prim.Native.Nat.{ℕ, _+_, _-_, _*_, _≤_}
-use mathlib.Core.Path.{_≡_, refl, sym, ap, _∙_}
+use Prim.Native.Nat.{ℕ, _+_, _-_, _≤_}
+use mathlib.Core.Path.{sym, ap, _∙_}
 use mathlib.Core.Bool.{true}
 use native.Mathlib.Omega.{arith}
-use borrow.Author.Needs.{needs}
 use lib.ListN.{length, drop, length-take}
 use Rattle.prepare.specs.Threshold.{span, thresholded}
 use Rattle.prepare.specs.declared.averages.Ends.{Ends}

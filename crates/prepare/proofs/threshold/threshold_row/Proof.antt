@@ -1,9 +1,7 @@
 -- `threshold_row` runs both averages along a row and shades it by what is kept. Assumes nothing.
-use Prim.Native.Nat.{ℕ, _≤_}
-use mathlib.Core.Path.{_≡_, _∙_}
+use mathlib.Core.Path.{_∙_}
 use native.Mathlib.Omega.{arith}
 use borrow.Author.Needs.{needs}
-use lib.ListN.{length, getD}
 use Rattle.prepare.specs.Run.{Columns}
 use Rattle.prepare.proofs.Bounds.{Low, kept-columns, kept-shades}
 use Rattle.prepare.proofs.threshold.threshold_row.Statement.{statement}
