@@ -1,7 +1,7 @@
 -- The tests before a claim, in order: document 01, refusals 1, 2, 3, 5, 8, 6, 7.
 use Prim.Native.Nat.{ℕ}
 use mathlib.Core.List.{List, [], _∷_, _++_}
-use mathlib.Core.Bool.{not, _&&_}
+use mathlib.Core.Bool.{Bool, not, _&&_}
 use lib.Dec.{eqb, leb}
 use lib.ListN.{length}
 use Rattle.refusals.specs.First.{Test, _when_}
@@ -9,9 +9,13 @@ use Rattle.refusals.specs.declared.Refusal.the-variants.{Target, White, Same}
 use Rattle.picture.specs.Sides.{seedTests}
 use Rattle.pieces.specs.Picture.{px}
 
+-- a byte that a claim may paint: capstone, alignment or temporary
+abbrev pub claimable : ℕ → Bool
+claimable target = leb 2 target && leb target 4
+
 -- 8: the target is not 2, 3 or 4
 abbrev pub targetTest : ℕ → Test
-targetTest target = Target when not (leb 2 target && leb target 4)
+targetTest target = Target when not (claimable target)
 
 -- 6: the seed pixel is 0
 abbrev pub whiteTest : ℕ → Test

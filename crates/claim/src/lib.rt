@@ -3,7 +3,7 @@ ghost use mathlib.Core.Path.{_≡_};
 ghost use lib.ListN.{length};
 ghost use Rattle.refusals.specs.First.{first, sound};
 ghost use Rattle.picture.specs.Verdict.{judged};
-ghost use Rattle.claim.specs.Tests.{paintTests, claimTests};
+ghost use Rattle.claim.specs.Tests.{claimable, paintTests, claimTests};
 ghost use Rattle.claim.specs.Outcome.{Outcome, claimed};
 use fill::paint::Counts;
 use fill::paint::paint_and_count;
@@ -17,14 +17,22 @@ pub enum Claimed {
     Refused(Refusal),
 }
 
+// Whether a claim may paint with this byte.
+fn is_target(target: u8) -> bool
+    ensures { λ r. ⌜ r ≡ claimable target ⌝ }
+{
+    if target < 2 {
+        return false;
+    }
+    target <= 4
+}
+
 // Whether a seed that shows this byte can be painted with the target: 8, 6, 7.
 fn paintable(byte: u8, target: u8) -> Verdict
     ensures { λ r. ⌜ judged r ≡ first (paintTests byte target) sound ⌝ }
 {
-    if target < 2 {
-        return Verdict::Refused(Refusal::Target);
-    }
-    if target > 4 {
+    let known = is_target(target);
+    if !known {
         return Verdict::Refused(Refusal::Target);
     }
     if byte == 0 {

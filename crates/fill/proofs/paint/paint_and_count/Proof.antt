@@ -18,12 +18,12 @@ Inv-loop pic₀ w h stack₀ x y to from sp₀ rows₀ pixels₀ pushes₀ pic s
 abbrev μ-loop : tie.MeasureT-loop
 μ-loop pic₀ w h stack₀ x y to from sp₀ rows₀ pixels₀ pushes₀ pic stack sp rows pixels pushes = toDo from pic sp
 
--- the loop's head and its test, as they stood before the step
+-- the loop's head as it stood before the step, and that an entry was there to take
 abbrev head : tie.After-fill-step Inv-loop μ-loop → tie.At-loop Inv-loop μ-loop
 head s = s .before .before .before .before
 
-abbrev test : tie.After-fill-step Inv-loop μ-loop → tie.In-loop Inv-loop μ-loop
-test s = s .before .before .before
+some : (s : tie.After-fill-step Inv-loop μ-loop) → 0 < head s .loop .sp
+some s = omega arith
 
 -- the step, as the arm for a row met sees it, and the other arm
 abbrev met : tie.After-r Inv-loop μ-loop → tie.After-fill-step Inv-loop μ-loop
@@ -34,7 +34,7 @@ passed c = c .before .before .before .before .before .before
 
 -- the row met is within its line
 within : (c : tie.After-r Inv-loop μ-loop) → let r = c .r .given .0 .0 in (r .left ≤ r .right) × (r .right < head (met c) .before .before .before .before .before .before .before .before .args .w)
-within c = let s = met c in met-in (head s .loop .inv) (test s .loop-test .taken) (s .fill-step .ensures) (c .r .given .1) (search needs) (search needs)
+within c = let s = met c in met-in (head s .loop .inv) (some s) (s .fill-step .ensures) (c .r .given .1) (search needs) (search needs)
 
 seed-requires : tie.Need-seed-requires Inv-loop μ-loop
 seed-requires c κs = let s = c .before .before .before .before in (s .pre .sized, s .pre .in-x, s .pre .in-y, room-some (s .pre))
@@ -48,7 +48,7 @@ sub-at : tie.Need-sub-at Inv-loop μ-loop
 sub-at c = search needs
 
 fill-step-requires : tie.Need-fill-step-requires Inv-loop μ-loop
-fill-step-requires c κs = filling-asks (c .before .before .before .loop .inv .filling) (c .before .before .loop-test .taken)
+fill-step-requires c κs = filling-asks (c .before .before .before .loop .inv .filling) (omega arith)
 
 enum-known-r : tie.Need-enum-known-r Inv-loop μ-loop
 enum-known-r c = search needs
@@ -72,22 +72,24 @@ add-pixels-2 c =
     omega (arith, m .0, m .1, i .filling .wide, i .pixels-few, pushes-low i)
 
 sub-pushes : tie.Need-sub-pushes Inv-loop μ-loop
-sub-pushes c = let s = met (c .before .before) in met-kept (head s .loop .inv) (test s .loop-test .taken) (s .fill-step .ensures) (c .before .before .r .given .1)
+sub-pushes c =
+    let s = met (c .before .before) in
+    omega (arith, met-kept (head s .loop .inv) (some s) (s .fill-step .ensures) (c .before .before .r .given .1))
 
 add-pushes : tie.Need-add-pushes Inv-loop μ-loop
 add-pushes c =
     let s = met (c .before .before) in
-    omega (arith, pushes-low (counting-met (head s .loop .inv) (test s .loop-test .taken) (s .fill-step .ensures) (c .before .before .r .given .1) (search needs) (search needs)))
+    omega (arith, pushes-low (counting-met (head s .loop .inv) (some s) (s .fill-step .ensures) (c .before .before .r .given .1) (search needs) (search needs)))
 
 loop-less : tie.Need-loop-less Inv-loop μ-loop
 loop-less c =
     let s = met (c .before .before) in
-    filling-less (head s .loop .inv .filling) (test s .loop-test .taken) (steps-as (c .before .before .r .given .1) (s .fill-step .ensures))
+    filling-less (head s .loop .inv .filling) (some s) (steps-as (c .before .before .r .given .1) (s .fill-step .ensures))
 
 loop-again : tie.Need-loop-again Inv-loop μ-loop
 loop-again c =
     let s = met (c .before .before) in
-    counting-met (head s .loop .inv) (test s .loop-test .taken) (s .fill-step .ensures) (c .before .before .r .given .1) (search needs) (search needs)
+    counting-met (head s .loop .inv) (some s) (s .fill-step .ensures) (c .before .before .r .given .1) (search needs) (search needs)
 
 enum-known-top : tie.Need-enum-known-top Inv-loop μ-loop
 enum-known-top c = search needs
@@ -95,12 +97,12 @@ enum-known-top c = search needs
 loop-less-2 : tie.Need-loop-less-2 Inv-loop μ-loop
 loop-less-2 c =
     let s = passed (c .before) in
-    filling-less (head s .loop .inv .filling) (test s .loop-test .taken) (steps-as (c .before .top .given .1) (s .fill-step .ensures))
+    filling-less (head s .loop .inv .filling) (some s) (steps-as (c .before .top .given .1) (s .fill-step .ensures))
 
 loop-again-2 : tie.Need-loop-again-2 Inv-loop μ-loop
 loop-again-2 c =
     let s = passed (c .before) in
-    counting-passed (head s .loop .inv) (test s .loop-test .taken) (s .fill-step .ensures) (c .before .top .given .1) (search needs) (search needs)
+    counting-passed (head s .loop .inv) (some s) (s .fill-step .ensures) (c .before .top .given .1) (search needs) (search needs)
 
 same-length : tie.Need-same-length Inv-loop μ-loop
 same-length c = search needs

@@ -11,7 +11,7 @@ use Rattle.fill.proofs.seeds.seed_above.Statement.{statement}
 use Rattle.fill.proofs.seeds.seed_above.Tie as tie
 
 returns : tie.Need-returns
-returns c = sym (above-none _ _ _ _ _ _ _ (c .if1 .taken))
+returns c = sym (above-none _ _ _ _ _ (c .before .before .before .args .y) _ (omega arith))
 
 sub-b : tie.Need-sub-b
 sub-b c = search needs

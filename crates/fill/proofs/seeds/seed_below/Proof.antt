@@ -14,7 +14,9 @@ add-b : tie.Need-add-b
 add-b c = search needs
 
 returns : tie.Need-returns
-returns c = sym (below-none _ _ _ _ _ _ _ _ (c .if1 .taken))
+returns c =
+    let s = c .before .before .before .args in
+    sym (below-none _ (s .h) _ _ _ _ (s .y) _ (omega arith))
 
 mul-base : tie.Need-mul-base
 mul-base c =
