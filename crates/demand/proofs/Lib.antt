@@ -1,0 +1,5 @@
+pub mod Accepted
+pub mod Kept
+pub mod Next
+pub mod Demand
+pub mod Beside

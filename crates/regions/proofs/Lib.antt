@@ -1,0 +1,4 @@
+pub mod Accepted
+pub mod Unique
+pub mod Twice
+pub mod Asks
