@@ -8,3 +8,7 @@ longestSide = 800
 -- no stated point is further out, in either direction of either axis (refusal 12)
 abbrev pub farthest : ℕ
 farthest = 10000
+
+-- no list of stones is longer (refusal 11)
+abbrev pub mostStones : ℕ
+mostStones = 64

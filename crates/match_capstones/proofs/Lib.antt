@@ -1,0 +1,11 @@
+pub mod Floats
+pub mod Arrays
+pub mod Next
+pub mod Count
+pub mod Before
+pub mod Swap
+pub mod Rising
+pub mod Exact
+pub mod Fifth
+pub mod All
+pub mod Apart
