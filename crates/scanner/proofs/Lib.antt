@@ -2,3 +2,6 @@ mod RunEnds
 pub mod Ahead
 pub mod Alike
 pub mod Dark
+mod Follows
+pub mod Machine
+pub mod Painted

@@ -15,11 +15,11 @@ is-light p base x e = rw (eq-eqb _ _ e)
 pub is-dark : (p : List ℕ) (base x : ℕ) → (getD p (base + x) 0 ≡ 0 → ⊥) → dark p base x ≡ true
 is-dark p base x e = rw (ne-eqb _ _ e)
 
-like : (b : Bool) → Bool·beq b b ≡ true
+pub like : (b : Bool) → Bool·beq b b ≡ true
 like true = refl
 like false = refl
 
-unlike : (b : Bool) → Bool·beq (not b) b ≡ false
+pub unlike : (b : Bool) → Bool·beq (not b) b ≡ false
 unlike true = refl
 unlike false = refl
 

@@ -1,3 +1,5 @@
 pub mod Edges
 pub mod Cuts
 pub mod Scan
+pub mod Machine
+pub mod Line
