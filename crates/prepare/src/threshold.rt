@@ -2,8 +2,9 @@ use crate::averages::Ends;
 use crate::averages::run;
 ghost use mathlib.Core.Path.{_≡_};
 ghost use mathlib.Core.List.{zipWith};
-ghost use Prim.Native.Nat.{_+_, _*_, _≤_, _<_};
+ghost use Prim.Native.Nat.{_+_, _≤_};
 ghost use lib.ListN.{length, take};
+ghost use Rattle.refusals.specs.Limits.{longestSide};
 ghost use Rattle.picture.specs.Sides.{Sized};
 ghost use Rattle.prepare.specs.Threshold.{span as spanOf, shade as shadeOf, shaded, thresholded};
 ghost use Rattle.prepare.specs.Run.{Ready, Columns, endsOf};
@@ -53,7 +54,7 @@ fn threshold_row(
 
 // The span of an average.
 fn span(width: usize) -> u16
-    requires { ⌜ width ≤ 800 ⌝ }
+    requires { ⌜ width ≤ longestSide ⌝ }
     ensures { λ r. ⌜ r ≡ spanOf width ⌝ }
 {
     if width < 16 {
@@ -64,7 +65,7 @@ fn span(width: usize) -> u16
 
 // Room for a row's averages.
 fn columns() -> [u16; 800]
-    ensures { λ r. ⌜ length r ≡ 800 ⌝ }
+    ensures { λ r. ⌜ length r ≡ longestSide ⌝ }
 {
     [0u16; 800]
 }
