@@ -1,6 +1,7 @@
 -- The order in which a fill meets the rows of its piece, as a rule that computes. It has no other source: taken from the Rust, `flood_fill` of src/prepare.rs.
 -- A turn takes the entry that was pushed last. Where its pixel is painted by now nothing happens. Else its row is painted and met, and entries are
 -- pushed for the line above and then for the line below, each from left to right.
+-- Throughout, p is the picture, w by h; f is the byte that is filled and t the byte that it is filled with; st is the stack, its latest entry first.
 use Prim.Native.Nat.{ℕ, zero, suc, _+_, _*_, _-_}
 use mathlib.Core.List.{List, [], _∷_, _++_}
 use mathlib.Core.Bool.{Bool, true, false}
@@ -68,7 +69,7 @@ pub record Turned : Type 0 where
 abbrev pub turned : List ℕ → List Pixel → List Row → Turned
 turned p st met = record { pic = p; stack = st; met = met }
 
--- the row r is met: painted, and its neighbours are pushed
+-- the row r is met: it is painted, and entries are pushed beside it
 unfoldable pub meet : ℕ → ℕ → ℕ → ℕ → List ℕ → Row → List Pixel → Turned
 meet w h f t p r st = turned (paintRow w t p r) (seeded w h f (paintRow w t p r) r st) (r ∷ [])
 
