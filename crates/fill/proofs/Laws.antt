@@ -4,6 +4,7 @@ use native.Mathlib.Omega.{arith}
 use mathlib.Core.Path.{_≡_, refl, sym, subst}
 use mathlib.Core.List.{List, [], _∷_}
 use lib.ListN.{length}
+use Rattle.pieces.specs.Picture.{px}
 use Rattle.pieces.specs.Count.{Lists}
 use Rattle.pieces.specs.Piece.{Piece, Pixels}
 use Rattle.pieces.specs.Row.{RowOf, Rows}
@@ -31,6 +32,10 @@ module _ {p : List ℕ} {w h x y t : ℕ} (ok : Valid (taskOf p w h x y t)) wher
   -- the picture that the rule ends with is the one with the piece painted
   pub rule-paints : Paints p w h x y t (filled p w h x y t .pic)
   rule-paints = whole-paints ended
+
+  -- so that a pixel which the rule leaves is not of the piece
+  pub not-painted : (a b : ℕ) → (px (filled p w h x y t .pic) w a b ≡ t → ⊥) → Piece p w h x y a b → ⊥
+  not-painted a b n c = n (rule-paints .piece a b c)
 
   pub rows-met : Lists (RowOf (Piece p w h x y)) (rowsMet p w h x y t)
   rows-met = whole-rows ended

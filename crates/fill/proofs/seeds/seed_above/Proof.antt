@@ -1,7 +1,7 @@
 -- `seed_above` scans the line before y, where there is one. Assumes nothing.
 use Prim.Native.Nat.{_-_}
 use native.Mathlib.Omega.{arith}
-use mathlib.Core.Path.{refl, sym, ap, _∙_}
+use mathlib.Core.Path.{refl, sym, ap}
 use lib.ListN.{length}
 use borrow.Author.Needs.{needs}
 use Rattle.fill.specs.Stack.{held}
@@ -35,8 +35,8 @@ same-length c = search needs
 
 returns-2 : tie.Need-returns-2
 returns-2 c =
-    let y = c .before .before .before .before .before .before .before .args .y in
-    c .before .before .seed-line .ensures ∙ sym (above-line _ _ _ _ _ y _ (y - 1) (omega arith))
+    let s = c .before .before .before .before .before .before .before .args in
+    rw (above-line (s .w) (s .from) (s .pic .now) (s .left) (s .n) (s .y) (held (s .stack .now) (s .sp)) (s .y - 1) (omega arith)) (c .before .before .seed-line .ensures)
 
 pub seed-above-spec : {M : Type 1} → statement M
 seed-above-spec =

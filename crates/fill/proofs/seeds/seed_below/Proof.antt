@@ -1,7 +1,7 @@
 -- `seed_below` scans the line after y, where there is one. Assumes nothing.
 use Prim.Native.Nat.{_+_}
 use native.Mathlib.Omega.{arith}
-use mathlib.Core.Path.{refl, sym, ap, _∙_}
+use mathlib.Core.Path.{refl, sym, ap}
 use lib.ListN.{length}
 use borrow.Author.Needs.{needs}
 use Rattle.fill.specs.Stack.{held}
@@ -38,7 +38,7 @@ same-length c = search needs
 returns-2 : tie.Need-returns-2
 returns-2 c =
     let s = c .before .before .before .before .before .before .before .args in
-    c .before .before .seed-line .ensures ∙ sym (below-line _ (s .h) _ _ _ _ (s .y) _ (s .y + 1) (omega arith) (omega arith))
+    rw (below-line (s .w) (s .h) (s .from) (s .pic .now) (s .left) (s .n) (s .y) (held (s .stack .now) (s .sp)) (s .y + 1) (omega arith) (omega arith)) (c .before .before .seed-line .ensures)
 
 pub seed-below-spec : {M : Type 1} → statement M
 seed-below-spec =
