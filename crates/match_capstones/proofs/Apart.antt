@@ -19,7 +19,7 @@ use Rattle.capstones.specs.declared.CapStone.{CapStone}
 use Rattle.capstones.specs.Blank.{noStone}
 use Rattle.match_capstones.specs.Only.{only}
 use Rattle.match_capstones.specs.Neighbors.{middle, offset, inLine, neighbor, Other, others, othersOf, hlist, vlist}
-use Rattle.match_capstones.specs.Proper.{All, all-none, all-one}
+use Rattle.match_capstones.specs.All.{All, all-none, all-one}
 use Rattle.match_capstones.proofs.Fifth.{above-fifth, one-way}
 use Rattle.match_capstones.proofs.All.{all-others}
 use Rattle.match_capstones.proofs.Next.{others-few}

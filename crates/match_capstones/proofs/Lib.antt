@@ -9,3 +9,8 @@ pub mod Exact
 pub mod Fifth
 pub mod All
 pub mod Apart
+pub mod Meaning
+pub mod Pairs
+pub mod Determined
+pub mod Refusals
+pub mod Examples

@@ -26,7 +26,7 @@ pub stops : (s t : NeighborSet) (l : List NeighborSet) → sooner t s ≡ false 
 unfolding inserted
 stops s t l h = rw h
 
-alone : (s : NeighborSet) → inserted s [] ≡ s ∷ []
+pub alone : (s : NeighborSet) → inserted s [] ≡ s ∷ []
 unfolding inserted
 alone s = refl
 

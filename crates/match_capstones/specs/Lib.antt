@@ -1,4 +1,5 @@
 pub mod Only
+pub mod All
 pub mod Neighbors
 pub mod Scores
 pub mod Order

@@ -2,8 +2,10 @@
 -- `RankingOf` says what a list in that order is, `ranked` computes it, and laws say that it is the only one. Assumes nothing.
 use mathlib.Core.Path.{_≡_}
 use mathlib.Core.Bool.{Bool, false, not, _&&_, _||_, cond}
-use mathlib.Core.List.{List, [], _∷_}
+use mathlib.Core.List.{List, [], _∷_, flatMap}
 use lib.Ieee.{Float, lt, isNan}
+use Rattle.match_capstones.specs.Only.{only}
+use Rattle.match_capstones.specs.All.{Pairwise}
 use Rattle.match_capstones.specs.declared.NeighborSet.{NeighborSet}
 
 -- a score ranks before another: it is less, or it is a number and the other is none
@@ -14,20 +16,13 @@ ranksBefore a b = lt a b || (not (isNan a) && isNan b)
 abbrev pub alike : Float → Float → Bool
 alike a b = not (ranksBefore a b) && not (ranksBefore b a)
 
--- none of the list ranks before s
-abbrev pub NoneBefore : NeighborSet → List NeighborSet → Type 0
-NoneBefore s [] = Unit {0}
-NoneBefore s (t ∷ ts) = (ranksBefore (t .score) (s .score) ≡ false) × NoneBefore s ts
-
 -- no set of the list ranks before one that stands ahead of it
 abbrev pub Sorted : List NeighborSet → Type 0
-Sorted [] = Unit {0}
-Sorted (s ∷ ss) = NoneBefore s ss × Sorted ss
+Sorted = Pairwise (λ s t. ranksBefore (t .score) (s .score) ≡ false)
 
 -- the sets of a list that rank as x does, in the list's order
-unfoldable pub alikes : Float → List NeighborSet → List NeighborSet
-alikes x [] = []
-alikes x (s ∷ ss) = cond (alike x (s .score)) (s ∷ alikes x ss) (alikes x ss)
+abbrev pub alikes : Float → List NeighborSet → List NeighborSet
+alikes x = flatMap (λ s. only (alike x (s .score)) s)
 
 -- l holds the sets made, sorted, and sets that rank alike stand in it as they were made
 pub record RankingOf (made l : List NeighborSet) : Type 0 where

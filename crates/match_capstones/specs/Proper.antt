@@ -1,13 +1,9 @@
 -- What is true of every pair that a ranking answers, and of all of them together: the statements of the laws. Assumes nothing.
 use Prim.Native.Nat.{ℕ, _<_}
 use mathlib.Core.Path.{_≡_}
-use mathlib.Core.List.{List, [], _∷_}
+use mathlib.Core.List.{List}
+use Rattle.match_capstones.specs.All.{Pairwise}
 use Rattle.match_capstones.specs.declared.Pair.{Pair}
-
--- every element has a property
-pub data All {A : Type 0} (P : A → Type 0) : List A → Type 0 where
-  all-none : All P []
-  all-one : {x : A} {l : List A} → P x → All P l → All P (x ∷ l)
 
 -- a pair of two stones, of n, beside stone idx: three different stones
 pub record Proper (n idx : ℕ) (p : Pair) : Type 0 where
@@ -23,5 +19,4 @@ Differ p q = p .h ≡ q .h → p .v ≡ q .v → ⊥
 
 -- no pair stands twice
 abbrev pub Once : List Pair → Type 0
-Once [] = Unit {0}
-Once (p ∷ l) = All (Differ p) l × Once l
+Once = Pairwise Differ
