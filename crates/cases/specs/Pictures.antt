@@ -1,13 +1,14 @@
 -- Document 01's examples of pictures and paint. Assumes nothing.
 use Prim.Native.Nat.{ℕ, _*_, _/_}
 use mathlib.Core.List.{List, [], _∷_, _++_}
-use lib.ListN.{length, getD, replicate}
+use lib.ListN.{getD, replicate}
+use Rattle.refusals.specs.Finding.{found}
 use Rattle.pieces.specs.Piece.{Piece}
 use Rattle.picture.specs.Colour.{colourOf}
 use Rattle.picture.specs.declared.PixelColor.the-variants.{Tmp1, Discarded}
 use Rattle.prepare.specs.Threshold.{span, sums, thresholded}
-use Rattle.fill.specs.Order.{rowsMet, entriesPushed}
-use Rattle.fill.specs.Fold.{folded, widthMore}
+use Rattle.fill.specs.declared.paint.Counts.{Counts}
+use Rattle.claim.specs.Outcome.{Outcome}
 use Rattle.cases.specs.Case.{Case, _answers_, states}
 
 -- a 16 x 1 grey line, all 200 but pixel 8 = 0, and the line with pixel 8 alone black
@@ -18,8 +19,12 @@ abbrev spot : List ℕ
 spot = replicate 8 0 ++ (1 ∷ replicate 7 0)
 
 -- rows 101 / 111, and rows 10 / 01
-abbrev arch : List ℕ
+abbrev pub arch : List ℕ
 arch = 1 ∷ 0 ∷ 1 ∷ 1 ∷ 1 ∷ 1 ∷ []
+
+-- the first of them, claimed with 2
+abbrev painted : List ℕ
+painted = 2 ∷ 0 ∷ 2 ∷ 2 ∷ 2 ∷ 2 ∷ []
 
 abbrev pub diagonal : List ℕ
 diagonal = 1 ∷ 0 ∷ 0 ∷ 1 ∷ []
@@ -36,9 +41,7 @@ pictures =
     -- only pixel 8 is black
     ∷ (thresholded 16 1 grey answers spot)
     -- rows 101 / 111 from (0,0): 5 pixels, 3 rows, 3 pushes
-    ∷ (folded widthMore 0 (rowsMet arch 3 2 0 0 2) answers 5)
-    ∷ (length (rowsMet arch 3 2 0 0 2) answers 3)
-    ∷ (entriesPushed arch 3 2 0 0 2 answers 3)
+    ∷ states (Outcome arch 3 2 6 0 0 2 painted (found (record { rows = 3; pixels = 5; pushes = 3 })))
     -- rows 10 / 01 are two pieces: no chain joins (0,0) and (1,1)
     ∷ states (Piece diagonal 2 2 0 0 1 1 → ⊥)
     ∷ []
