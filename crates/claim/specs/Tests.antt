@@ -5,8 +5,8 @@ use mathlib.Core.Bool.{Bool, not, _&&_}
 use lib.Dec.{eqb, leb}
 use lib.ListN.{length}
 use Rattle.refusals.specs.First.{Test, _when_}
-use Rattle.refusals.specs.declared.Refusal.the-variants.{Target, White, Same}
-use Rattle.picture.specs.Sides.{seedTests}
+use Rattle.refusals.specs.declared.Refusal.the-variants.{Target, Same}
+use Rattle.picture.specs.Sides.{seedTests, whiteTest}
 use Rattle.pieces.specs.Picture.{px}
 
 -- a byte that a claim may paint: capstone, alignment or temporary
@@ -16,10 +16,6 @@ claimable target = leb 2 target && leb target 4
 -- 8: the target is not 2, 3 or 4
 abbrev pub targetTest : ℕ → Test
 targetTest target = Target when not (claimable target)
-
--- 6: the seed pixel is 0
-abbrev pub whiteTest : ℕ → Test
-whiteTest byte = White when eqb byte 0
 
 -- 7: the seed already has the target colour
 abbrev pub sameTest : ℕ → ℕ → Test

@@ -1,11 +1,11 @@
 -- Beside demand 3: its sentences leave no piece out, lookups in a run are accepted, at most 251 numbers stand, and pieces stay what they were. Assumes nothing.
 use Prim.Native.Nat.{ℕ, _+_, _*_, _<_, _≤_}
 use native.Mathlib.Omega.{arith}
-use mathlib.Core.Path.{_≡_, refl, sym, _∙_, subst}
-use mathlib.Core.List.{List, [], _∷_}
+use mathlib.Core.Path.{_≡_, refl}
+use mathlib.Core.List.{List, _∷_}
 use mathlib.Core.Logic.{_⊎_, _↔_, inl, inr, ⊎-elim}
 use lib.ListN.{length}
-use Rattle.refusals.specs.Finding.{Finding, found, refused}
+use Rattle.refusals.specs.Finding.{found, refused}
 use Rattle.refusals.specs.First.{first, sound}
 use Rattle.picture.specs.Bitmap.{Accepted}
 use Rattle.pieces.specs.Picture.{px}

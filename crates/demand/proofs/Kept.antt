@@ -1,20 +1,19 @@
 -- What every call keeps, stated of the bitmap's pieces. Assumes nothing.
 use Prim.Native.Nat.{ℕ, _+_, _<_, _≤_}
 use native.Mathlib.Omega.{arith}
-use mathlib.Core.Path.{_≡_, refl, sym, ap, _∙_, subst}
+use mathlib.Core.Path.{_≡_, sym, ap, _∙_, subst}
 use mathlib.Core.List.{List, [], _∷_}
 use mathlib.Core.Logic.{_⊎_, ⊎-elim}
 use Rattle.refusals.specs.Finding.{found, refused}
 use Rattle.picture.specs.Bitmap.{Accepted}
 use Rattle.picture.proofs.Bitmaps.{bitmap-at}
 use Rattle.pieces.specs.Picture.{px}
-use Rattle.pieces.specs.Piece.{Dark, Piece, BitmapPiece, Pixels}
+use Rattle.pieces.specs.Piece.{Dark, BitmapPiece}
 use Rattle.pieces.specs.Paint.{Paints}
 use Rattle.pieces.proofs.Numbers.{same}
 use Rattle.pieces.proofs.Chains.{last-of}
 use Rattle.pieces.proofs.Bitmap.{Coloured, bare, bitmap-pixels, on-piece, painted, unpainted, paint-keeps}
-use Rattle.table.specs.Table.{most, emptyTable, entryOf, newest, added, replaced}
-use Rattle.table.specs.Sound.{Inside}
+use Rattle.table.specs.Table.{emptyTable, entryOf, newest}
 use Rattle.table.proofs.Kept.{Proper, proper-empty, proper-newest}
 use Rattle.table.specs.declared.Entry.{Entry}
 use Rattle.table.specs.declared.Table.{Table}

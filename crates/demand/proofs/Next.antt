@@ -1,31 +1,29 @@
 -- Every call that its contract allows keeps what is kept; and an accepted lookup of a piece that is not claimed answers its count. Assumes nothing.
-use Prim.Native.Nat.{ℕ, _+_, _<_, _≤_}
+use Prim.Native.Nat.{ℕ, _<_, _≤_}
 use native.Mathlib.Omega.{arith}
-use mathlib.Core.Path.{_≡_, refl, sym, ap, _∙_, subst}
-use mathlib.Core.List.{List, [], _∷_}
+use mathlib.Core.Path.{_≡_, refl, subst}
+use mathlib.Core.List.{List, _∷_}
 use mathlib.Core.Logic.{_⊎_, inl, inr}
 use Rattle.refusals.specs.Finding.{Finding, found, refused}
 use Rattle.refusals.specs.First.{first, sound}
 use Rattle.pieces.specs.Picture.{px}
 use Rattle.pieces.proofs.Chains.{pixels-from}
-use Rattle.table.specs.Table.{most, entryOf, added, replaced}
-use Rattle.table.specs.Sound.{Inside}
+use Rattle.table.specs.Table.{entryOf}
 use Rattle.table.proofs.Entries.{added-here, added-other, replaced-here, replaced-other}
 use Rattle.table.proofs.Exact.{test-oldest}
-use Rattle.table.proofs.Kept.{Proper, proper-added, proper-replaced}
-use Rattle.table.specs.declared.Entry.{Entry}
+use Rattle.table.proofs.Kept.{proper-added, proper-replaced}
 use Rattle.table.specs.declared.Table.{Table}
 use Rattle.regions.specs.Found.{Answer, unclaimed, region}
 use Rattle.regions.specs.Tests.{lookTests, Lookable}
-use Rattle.regions.specs.Lookup.{Measures, givenUp, Fresh, Again, Looks, at-claimed, at-known, at-fresh, at-again, LookPost, refuses, answers}
+use Rattle.regions.specs.Lookup.{givenUp, Fresh, Again, Looks, at-claimed, at-known, at-fresh, at-again, refuses, answers}
 use Rattle.regions.specs.declared.Region.{Region}
 use Rattle.regions.proofs.Accepted.{lookable}
 use Rattle.regions.proofs.Asks.{still-black}
 use Rattle.regions.proofs.Twice.{measured-inside}
-use Rattle.demand.specs.Run.{Event, look, claim, Allowed, OwnSides, Claims, Unclaimed}
+use Rattle.demand.specs.Run.{Event, look, claim, Allowed, OwnSides}
 use Rattle.demand.specs.Reached.{Holds}
 use Rattle.demand.proofs.Accepted.{Repaints, repaints}
-use Rattle.demand.proofs.Kept.{Home, Kept, kept-spares, kept-newest, kept-claim, kept-back, kept-number}
+use Rattle.demand.proofs.Kept.{Kept, kept-spares, kept-newest, kept-claim, kept-back, kept-number}
 
 -- a region is answered, whose entry holds the piece's count
 abbrev pub Counts : List ℕ → ℕ → ℕ → ℕ → ℕ → Answer → Type 0

@@ -14,20 +14,20 @@ use Rattle.claim.specs.Outcome.{Outcome}
 
 -- a call with what it was given (the sides that it states, how many entries its stack has, the seed, the target), and its answer
 pub data Event : Type 0 where
-  look : (v g lent x y : ℕ) → Finding Answer → Event
-  claim : (v g lent x y target : ℕ) → Finding Counts → Event
+  look : (width height lent x y : ℕ) → Finding Answer → Event
+  claim : (width height lent x y target : ℕ) → Finding Counts → Event
 
 -- with the picture p and the table T before it, the call's contract allows its answer, and q and U after it; a claim has no table
 abbrev pub Allowed : List ℕ → Table → Event → List ℕ → Table → Type 0
-Allowed p T (look v g lent x y f) q U = LookPost p v g lent T x y f q U
-Allowed p T (claim v g lent x y target f) q U = Outcome p v g lent x y target q f × (U ≡ T)
+Allowed p T (look width height lent x y f) q U = LookPost p width height lent T x y f q U
+Allowed p T (claim width height lent x y target f) q U = Outcome p width height lent x y target q f × (U ≡ T)
 
 -- the call was refused, or it stated the bitmap's own sides
 abbrev pub OwnSides : ℕ → ℕ → Event → Type 0
-OwnSides w h (look v g lent x y (found a)) = (v ≡ w) × (g ≡ h)
-OwnSides w h (look v g lent x y (refused n)) = Unit {0}
-OwnSides w h (claim v g lent x y target (found c)) = (v ≡ w) × (g ≡ h)
-OwnSides w h (claim v g lent x y target (refused n)) = Unit {0}
+OwnSides w h (look width height lent x y (found a)) = (width ≡ w) × (height ≡ h)
+OwnSides w h (look width height lent x y (refused n)) = Unit {0}
+OwnSides w h (claim width height lent x y target (found c)) = (width ≡ w) × (height ≡ h)
+OwnSides w h (claim width height lent x y target (refused n)) = Unit {0}
 
 -- the calls E, the latest first, lead from the bitmap B, which is w by h, and the empty table to a picture and a table
 pub data Run (B : List ℕ) (w h : ℕ) : List Event → List ℕ → Table → Type 0 where
@@ -36,9 +36,9 @@ pub data Run (B : List ℕ) (w h : ℕ) : List Event → List ℕ → Table → 
 
 -- the call is an accepted claim of the piece that holds (a, b), with the target c
 abbrev pub Claims : List ℕ → ℕ → ℕ → Event → ℕ → ℕ → ℕ → Type 0
-Claims B w h (look v g lent x y f) a b c = ⊥
-Claims B w h (claim v g lent x y target (found counts)) a b c = BitmapPiece B w h x y a b × (target ≡ c)
-Claims B w h (claim v g lent x y target (refused n)) a b c = ⊥
+Claims B w h (look width height lent x y f) a b c = ⊥
+Claims B w h (claim width height lent x y target (found counts)) a b c = BitmapPiece B w h x y a b × (target ≡ c)
+Claims B w h (claim width height lent x y target (refused n)) a b c = ⊥
 
 -- it claims that piece with no target at all
 abbrev pub Spares : List ℕ → ℕ → ℕ → Event → ℕ → ℕ → Type 0

@@ -1,4 +1,4 @@
--- The tests of sides, length, room and seed that operations start with: document 01, refusals 1, 2, 3 and 5. Assumes nothing.
+-- The tests of sides, length, room and seed that operations start with: document 01, refusals 1, 2, 3, 5 and 6. Assumes nothing.
 use Prim.Native.Nat.{ℕ, _*_, _≤_, _<_}
 use mathlib.Core.Path.{_≡_}
 use mathlib.Core.Bool.{Bool, not, _&&_}
@@ -7,7 +7,7 @@ use mathlib.Core.Logic.{_⊎_}
 use lib.Dec.{eqb, ltb, leb}
 use Rattle.refusals.specs.Limits.{longestSide}
 use Rattle.refusals.specs.First.{Test, _when_}
-use Rattle.refusals.specs.declared.Refusal.the-variants.{Size, Length, Room, Outside}
+use Rattle.refusals.specs.declared.Refusal.the-variants.{Size, Length, Room, Outside, White}
 
 -- n is a side that a picture may have
 unfoldable pub side : ℕ → Bool
@@ -32,6 +32,10 @@ roomTest width height lent = Room when ltb lent (width * height)
 -- 5: the seed is outside the picture
 abbrev pub outsideTest : ℕ → ℕ → ℕ → ℕ → Test
 outsideTest width height x y = Outside when not (ltb x width && ltb y height)
+
+-- 6: the seed pixel is white
+abbrev pub whiteTest : ℕ → Test
+whiteTest byte = White when eqb byte 0
 
 -- what every operation on a picture tests first
 abbrev pub sideTests : ℕ → ℕ → ℕ → List Test

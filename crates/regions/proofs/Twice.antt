@@ -9,7 +9,7 @@ use Rattle.picture.specs.Sides.{Seeded}
 use Rattle.pieces.specs.Picture.{px}
 use Rattle.pieces.specs.Chain.{start}
 use Rattle.pieces.specs.Paint.{Paints}
-use Rattle.table.specs.Table.{most, entryOf, newest, added, replaced}
+use Rattle.table.specs.Table.{most, entryOf, newest}
 use Rattle.table.specs.Sound.{Inside}
 use Rattle.table.proofs.Entries.{added-here, replaced-here, newest-again}
 use Rattle.table.proofs.Exact.{sound-exact, test-oldest}
@@ -18,7 +18,7 @@ use Rattle.table.specs.declared.Entry.{Entry}
 use Rattle.table.specs.declared.Table.{Table}
 use Rattle.regions.specs.Found.{Answer, unclaimed, region}
 use Rattle.regions.specs.Tests.{Lookable}
-use Rattle.regions.specs.Lookup.{Measures, givenUp, Looks, at-claimed, at-known, at-fresh, at-again, LookPost, refuses, answers}
+use Rattle.regions.specs.Lookup.{Measures, givenUp, at-claimed, at-known, at-fresh, at-again, LookPost, refuses, answers}
 use Rattle.regions.proofs.Accepted.{lookable, lookable-passes}
 use Rattle.regions.proofs.Unique.{Alike, back-length, post-unique}
 

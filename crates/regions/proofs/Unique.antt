@@ -1,14 +1,12 @@
 -- Determined: two outcomes that a lookup's contract allows coincide. Assumes nothing.
-use Prim.Native.Nat.{ℕ, _+_, _*_, _<_}
+use Prim.Native.Nat.{ℕ, _*_, _<_}
 use native.Mathlib.Omega.{arith}
-use mathlib.Core.Path.{_≡_, refl, sym, ap, _∙_, subst}
+use mathlib.Core.Path.{_≡_, sym, ap, _∙_}
 use mathlib.Core.List.{List}
 use lib.ListN.{length}
-use Rattle.refusals.specs.Finding.{Finding, found, refused}
-use Rattle.refusals.specs.First.{sound}
+use Rattle.refusals.specs.Finding.{Finding, found}
 use Rattle.refusals.proofs.Distinct.{refusal-only}
 use Rattle.pieces.specs.Picture.{px}
-use Rattle.pieces.specs.Paint.{Paints}
 use Rattle.pieces.proofs.Counting.{number-unique}
 use Rattle.pieces.proofs.Paints.{paints-unique}
 use Rattle.table.specs.Table.{entryOf, newest, added, replaced}
@@ -17,7 +15,7 @@ use Rattle.table.specs.declared.Entry.{Entry}
 use Rattle.table.specs.declared.Table.{Table}
 use Rattle.regions.specs.Found.{Answer, unclaimed, region, meaning}
 use Rattle.regions.specs.Tests.{Lookable}
-use Rattle.regions.specs.Lookup.{Claimed, Known, Measures, Fresh, givenUp, FilledBack, in-paint, out-of-paint, Again, Looks, at-claimed, at-known, at-fresh, at-again, LookPost, refuses, answers}
+use Rattle.regions.specs.Lookup.{Claimed, Measures, Fresh, givenUp, FilledBack, in-paint, out-of-paint, Again, Looks, at-claimed, at-known, at-fresh, at-again, LookPost, refuses, answers}
 use Rattle.regions.specs.declared.ColoredRegion.{ColoredRegion}
 use Rattle.regions.specs.declared.ColoredRegion.the-variants as variant
 use Rattle.regions.proofs.Accepted.{lookable}

@@ -3,7 +3,6 @@
 use Prim.Native.Nat.{ℕ, _+_, _<_, _≤_}
 use mathlib.Core.Path.{_≡_}
 use mathlib.Core.List.{List}
-use mathlib.Core.Logic.{_⊎_}
 use Rattle.refusals.specs.Finding.{Finding, found, refused}
 use Rattle.refusals.specs.First.{first, sound}
 use Rattle.picture.specs.Colour.{colourOf}

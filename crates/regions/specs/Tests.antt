@@ -3,11 +3,11 @@ use Prim.Native.Nat.{ℕ, _+_, _-_, _<_}
 use mathlib.Core.Path.{_≡_}
 use mathlib.Core.Bool.{Bool, true, not, _&&_}
 use mathlib.Core.List.{List, [], _∷_, _++_}
-use lib.Dec.{eqb, leb}
+use lib.Dec.{leb}
 use lib.ListN.{length}
 use Rattle.refusals.specs.First.{Test, _when_}
 use Rattle.refusals.specs.declared.Refusal.the-variants as refusal
-use Rattle.picture.specs.Sides.{seedTests, Seeded}
+use Rattle.picture.specs.Sides.{seedTests, whiteTest, Seeded}
 use Rattle.pieces.specs.Picture.{px}
 use Rattle.table.specs.Sound.{soundTest}
 use Rattle.table.specs.declared.Table.{Table}
@@ -15,10 +15,6 @@ use Rattle.table.specs.declared.Table.{Table}
 -- 9: the table is not sound
 abbrev pub tableTest : Table → ℕ → ℕ → Test
 tableTest T width height = refusal.Table when not (soundTest T width height)
-
--- 6: the pixel is white
-abbrev pub whiteTest : ℕ → Test
-whiteTest byte = refusal.White when eqb byte 0
 
 -- 10: the pixel's byte is 5 or more, and no entry has its number
 unfoldable pub unlisted : ℕ → ℕ → Bool

@@ -1,6 +1,6 @@
 -- What is done to a region table. The operations are those of `LruCache`, whose public behaviour document 01 takes: `get` and `put` make an entry the newest. Assumes nothing.
 use Prim.Native.Nat.{ℕ, _+_, _-_}
-use mathlib.Core.List.{List, _∷_}
+use mathlib.Core.List.{_∷_}
 use lib.ListN.{getD, set, replicate}
 use Rattle.table.specs.Age.{without, turnedRound}
 use Rattle.table.specs.declared.Entry.{Entry}

@@ -1,8 +1,8 @@
 -- `get_region` goes by the byte that the pixel shows. Assumes nothing.
-use Prim.Native.Nat.{_-_, _≤_, _<_}
+use Prim.Native.Nat.{_-_}
 use native.Mathlib.Omega.{arith}
 use mathlib.Core.Path.{_≡_, refl, ap}
-use lib.ListN.{length, getD}
+use lib.ListN.{length}
 use borrow.Author.Needs.{needs}
 use Rattle.pieces.specs.Picture.{px}
 use Rattle.table.proofs.Exact.{test-ordered, test-few}

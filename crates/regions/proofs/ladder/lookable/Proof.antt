@@ -1,5 +1,5 @@
 -- `lookable` goes on from the tests of sides, length, room and seed: what these refuse stands, else 9, 6 and 10 are tested. Assumes nothing.
-use mathlib.Core.Path.{_≡_, sym, _∙_}
+use mathlib.Core.Path.{sym, _∙_}
 use mathlib.Core.List.{List}
 use lib.ListN.{length}
 use borrow.Author.Needs.{needs}
@@ -49,7 +49,7 @@ returns-2 : tie.Need-returns-2
 unfolding before after
 returns-2 c =
     let s = c .before .before .before .before .before in
-    sym (first-after (before s) (after s) sound (passed (c .before)) ∙ sym (c .own .ensures))
+    sym (first-after (before s) (after s) sound (passed (c .before)) ∙ sym {b = first (after s) sound} (c .own .ensures))
 
 pub lookable-spec : {M : Type 1} → statement M
 lookable-spec =

@@ -1,8 +1,6 @@
 -- `fill_back` fills an entry's piece back to black where it still shows its number. Assumes nothing.
-use Prim.Native.Nat.{_+_, _*_, _<_}
 use native.Mathlib.Omega.{arith}
-use mathlib.Core.Path.{_≡_, refl, sym, _∙_}
-use lib.ListN.{length}
+use mathlib.Core.Path.{refl}
 use borrow.Author.Needs.{needs}
 use Rattle.regions.specs.Lookup.{in-paint, out-of-paint}
 use Rattle.regions.proofs.Asks.{place, can-paint}

@@ -1,7 +1,5 @@
 -- `to_front` brings a number to the front: the loop carries what it has taken up one place on. Assumes nothing.
 use Prim.Native.Nat.{_-_}
-use native.Mathlib.Omega.{arith}
-use mathlib.Core.Path.{_≡_}
 use lib.ListN.{length}
 use borrow.Author.Needs.{needs}
 use Rattle.table.proofs.Front.{Shifted, shift-begin, shift-on, shift-end}

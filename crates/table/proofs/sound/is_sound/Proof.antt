@@ -2,11 +2,10 @@
 use Prim.Native.Nat.{_≤_}
 use native.Mathlib.Omega.{arith}
 use mathlib.Core.Path.{_≡_, sym, _∙_}
-use mathlib.Core.Bool.{true, false}
-use lib.ListN.{length, take}
+use lib.ListN.{length}
 use borrow.Author.Needs.{needs}
 use borrow.Author.Tests.{le-leb, lt-leb, not-true, not-false}
-use Rattle.table.specs.Sound.{onceEach, soundTest}
+use Rattle.table.specs.Sound.{soundTest}
 use Rattle.table.proofs.sound.is_sound.Statement.{statement}
 use Rattle.table.proofs.sound.is_sound.Tie as tie
 
