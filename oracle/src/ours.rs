@@ -13,6 +13,21 @@ extern "C" {
     fn elmetzhur_unmap(c: *const f64, n: usize, x: i32, y: i32, out: *mut f64, room: usize) -> u8;
     fn elmetzhur_line_intersect(points: *const i32, n: usize, out: *mut i32, room: usize) -> u8;
     fn elmetzhur_scan(x0: i32, y0: i32, x1: i32, y1: i32, out: *mut i32, room: usize) -> u8;
+    fn elmetzhur_accept(pic: *const u8, n: usize, width: usize, height: usize) -> u8;
+    fn elmetzhur_prepare(pic: *mut u8, n: usize, width: usize, height: usize) -> u8;
+    fn elmetzhur_claim(
+        pic: *mut u8,
+        n: usize,
+        width: usize,
+        height: usize,
+        stack: *mut u32,
+        entries: usize,
+        x: usize,
+        y: usize,
+        target: u8,
+        counts: *mut usize,
+        room: usize,
+    ) -> u8;
 }
 
 /// The whole number nearest to x.
@@ -43,4 +58,42 @@ pub fn line_intersect(points: &[i32], out: &mut [i32]) -> u8 {
 /// The points of a scan, x before y.
 pub fn scan(from: Point, to: Point, out: &mut [i32]) -> u8 {
     unsafe { elmetzhur_scan(from.x, from.y, to.x, to.y, out.as_mut_ptr(), out.len()) }
+}
+
+/// Whether a picture is a bitmap.
+pub fn accept(pic: &[u8], width: usize, height: usize) -> u8 {
+    unsafe { elmetzhur_accept(pic.as_ptr(), pic.len(), width, height) }
+}
+
+/// Thresholds a grey picture in place.
+pub fn prepare(pic: &mut [u8], width: usize, height: usize) -> u8 {
+    unsafe { elmetzhur_prepare(pic.as_mut_ptr(), pic.len(), width, height) }
+}
+
+/// A seed, and the byte to paint its piece with.
+#[derive(Clone, Copy, Debug)]
+pub struct Seed {
+    pub x: usize,
+    pub y: usize,
+    pub target: u8,
+}
+
+/// Claims a piece: rows, pixels and pushes.
+pub fn claim(pic: &mut [u8], width: usize, height: usize, stack: &mut [u32], seed: Seed, counts: &mut [usize]) -> u8 {
+    let (pixels, entries, room) = (pic.len(), stack.len(), counts.len());
+    unsafe {
+        elmetzhur_claim(
+            pic.as_mut_ptr(),
+            pixels,
+            width,
+            height,
+            stack.as_mut_ptr(),
+            entries,
+            seed.x,
+            seed.y,
+            seed.target,
+            counts.as_mut_ptr(),
+            room,
+        )
+    }
 }

@@ -60,6 +60,13 @@ module _ {A : Type 0} where
   stored-two (w ∷ vs) u v [] few = absurd (omega arith)
   stored-two (w ∷ vs) u v (x ∷ s) few = ap (λ (t : List A). w ∷ t) (stored-two vs u v s (omega arith))
 
+  -- three values stored one behind the other
+  pub stored-three : (a b c : A) (s : List A) → 3 ≤ length s → set (set (set s 0 a) 1 b) 2 c ≡ a ∷ b ∷ c ∷ drop 3 s
+  stored-three a b c [] few = absurd (omega arith)
+  stored-three a b c (x ∷ []) few = absurd (omega arith)
+  stored-three a b c (x ∷ y ∷ []) few = absurd (omega arith)
+  stored-three a b c (x ∷ y ∷ z ∷ s) enough = refl
+
   -- eight values stored one behind the other
   module _ (v0 v1 v2 v3 v4 v5 v6 v7 : A) where
     pub stored-eight : (s : List A) → 8 ≤ length s → set (set (set (set (set (set (set (set s 0 v0) 1 v1) 2 v2) 3 v3) 4 v4) 5 v5) 6 v6) 7 v7 ≡ v0 ∷ v1 ∷ v2 ∷ v3 ∷ v4 ∷ v5 ∷ v6 ∷ v7 ∷ drop 8 s

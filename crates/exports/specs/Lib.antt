@@ -1,2 +1,4 @@
 pub mod Answer
 pub mod Points
+pub mod Pictures
+pub mod Claims
