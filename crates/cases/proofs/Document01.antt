@@ -3,9 +3,11 @@ use mathlib.Core.List.{List, [], _∷_, _++_}
 use Rattle.cases.specs.Case.{Case, _answers_, states, AllHold}
 use Rattle.cases.specs.Geometry.{geometry}
 use Rattle.cases.specs.Pictures.{pictures}
+use Rattle.cases.specs.Marks.{marks}
 use Rattle.cases.specs.Table.{table}
 use Rattle.cases.proofs.Geometry.{geometry-holds}
 use Rattle.cases.proofs.Pictures.{pictures-hold}
+use Rattle.cases.proofs.Marks.{marks-hold}
 
 both : (cs ds : List Case) → AllHold cs → AllHold ds → AllHold (cs ++ ds)
 unfolding AllHold
@@ -15,4 +17,4 @@ both (states fact ∷ cs) ds p q = (p .0, both cs ds (p .1) q)
 
 pub document-01 : AllHold table
 unfolding table
-document-01 = both geometry pictures geometry-holds pictures-hold
+document-01 = both geometry (pictures ++ marks) geometry-holds (both pictures marks pictures-hold marks-hold)

@@ -1,3 +1,4 @@
 mod Geometry
 mod Pictures
+mod Marks
 pub mod Document01

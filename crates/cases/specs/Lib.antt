@@ -1,4 +1,5 @@
 pub mod Case
 pub mod Geometry
 pub mod Pictures
+pub mod Marks
 pub mod Table

@@ -3,6 +3,7 @@ use mathlib.Core.List.{List, _++_}
 use Rattle.cases.specs.Case.{Case}
 use Rattle.cases.specs.Geometry.{geometry}
 use Rattle.cases.specs.Pictures.{pictures}
+use Rattle.cases.specs.Marks.{marks}
 
 unfoldable pub table : List Case
-table = geometry ++ pictures
+table = geometry ++ (pictures ++ marks)
