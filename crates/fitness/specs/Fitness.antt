@@ -1,0 +1,41 @@
+-- The fitness of a perspective for a grid: how far a picture shows the expected cells as they should be. Definitions alone.
+use Prim.Native.Nat.{ℕ, _+_, _≤_, _<_}
+use mathlib.Core.Path.{_≡_}
+use mathlib.Core.List.{List}
+use lib.IntN.{ℤ}
+use Rattle.refusals.specs.Finding.{Finding, found, refusedBy}
+use Rattle.refusals.specs.declared.Refusal.the-variants as refusal
+use Rattle.geometry.specs.declared.Perspective.{Perspective}
+use Rattle.fitness.specs.Expected.{Expected, expected}
+use Rattle.fitness.specs.Score.{total, extent}
+use Rattle.fitness.specs.Seen.{cellOf}
+use Rattle.fitness.specs.declared.Fitness.{Fitness}
+use Rattle.fitness.specs.declared.Fitness.the-variants.{Score, Unplaced}
+
+-- an answer in document 01's terms: a score, or 13
+abbrev pub meaning : Fitness → Finding ℤ
+meaning (Score z) = found z
+meaning Unplaced = refusedBy refusal.Unplaced
+
+-- an answer means a score, which is no further from 0 than a bound
+pub record Scores (score : Finding ℤ) (most : ℕ) (r : Fitness) : Type 0 where
+  pub is : meaning r ≡ score
+  pub small : extent (meaning r) ≤ most
+
+-- a grid has so many cells along a side: version 0, which is none, to 40
+pub record GridSize (size : ℕ) : Type 0 where
+  pub least : 17 ≤ size
+  pub most : size ≤ 177
+
+-- a place along a side of a grid that has r more on either hand
+pub record Amid (r at : ℕ) : Type 0 where
+  pub before : r ≤ at
+  pub after : at + r < 177
+
+-- how far a picture shows cells as they are expected to be: each that it does counts for it, and each other against it
+unfoldable pub scoreOf : List ℕ → ℕ → ℕ → Perspective → List Expected → Finding ℤ
+scoreOf pic width height c cells = total (cellOf pic width height c) cells
+
+-- the fitness of a perspective for a grid with so many cells along a side
+abbrev pub fitnessOf : List ℕ → ℕ → ℕ → ℕ → Perspective → Finding ℤ
+fitnessOf pic width height size c = scoreOf pic width height c (expected size)

@@ -1,0 +1,4 @@
+pub mod Expected
+pub mod Score
+pub mod Seen
+pub mod Fitness
