@@ -1,0 +1,70 @@
+-- At a cut both lookups can be made, one after the other, and what they answer can be compared. Assumes nothing.
+use Prim.Native.Nat.{ℕ, _+_, _*_, _<_, _≤_}
+use native.Mathlib.Omega.{arith}
+use mathlib.Core.Path.{_≡_, sym, _∙_}
+use mathlib.Core.Bool.{true, not}
+use mathlib.Core.List.{List}
+use lib.Dec.{eqb}
+use lib.ListN.{length}
+use borrow.Author.Tests.{not-true, eqb-false}
+use Rattle.refusals.specs.Finding.{Finding, found}
+use Rattle.picture.specs.Sides.{Sized}
+use Rattle.pieces.specs.Picture.{px}
+use Rattle.table.specs.declared.Table.{Table}
+use Rattle.regions.specs.Found.{Answer, unclaimed}
+use Rattle.regions.specs.Tests.{Lookable}
+use Rattle.regions.specs.Lookup.{Answered, Looks}
+use Rattle.regions.specs.declared.Region.{Region}
+use Rattle.scanner.specs.declared.LinePosition.{LinePosition}
+use Rattle.marks.specs.InWork.{InWork, AtCut}
+use Rattle.marks.specs.Ring.{Countable}
+use Rattle.marks.proofs.Work.{Goes, goes-on, can-look, look-goes, look-counted}
+
+-- a pixel that is dark is not white
+not-white : (byte : ℕ) → not (eqb byte 0) ≡ true → byte ≡ 0 → ⊥
+not-white byte e = eqb-false byte 0 (not-true _ e)
+
+-- an answer that was found is the one that was found
+only-found : {a b : Answer} → found a ≡ found b → a ≡ b
+only-found e = cc
+
+module _ {p : List ℕ} {w h lent : ℕ} {T : Table} {y : ℕ} {cut : LinePosition} (C : AtCut p w h lent T y cut) where
+  pub on-right : cut .right < w
+  on-right = C .columns .right-on
+
+  pub on-stone : cut .stone < w
+  on-stone = omega (arith, C .columns .stone-next, C .columns .right-on)
+
+  pub on-left : cut .left < w
+  on-left = omega (arith, C .columns .left-first, on-stone)
+
+  right-shows : px p w (cut .right) y ≡ 0 → ⊥
+  right-shows = not-white _ (C .columns .right-dark)
+
+  stone-shows : px p w (cut .stone) y ≡ 0 → ⊥
+  stone-shows = not-white _ (C .columns .stone-dark)
+
+  pub ring-lookable : Lookable p w h lent T (cut .right) y
+  ring-lookable = can-look (C .work) on-right (C .in-y) right-shows
+
+  -- after the ring was looked up
+  module _ {f : Finding Answer} {m : List ℕ} {Between : Table} {room : ℕ} (more : lent ≤ room) (ring : Answered f (λ a. Looks p w h (cut .right) y T a m Between)) where
+    ring-goes : Goes p w h m room Between
+    ring-goes = look-goes (C .work) on-right (C .in-y) right-shows (ring .2) more
+
+    stone-still : px m w (cut .stone) y ≡ 0 → ⊥
+    stone-still z = stone-shows (ring-goes .white _ _ on-stone (C .in-y) .0 z)
+
+    pub stone-lookable : Lookable m w h room Between (cut .stone) y
+    stone-lookable = can-look (ring-goes .work) on-stone (C .in-y) stone-still
+
+    pub ring-countable : Countable f
+    ring-countable r e = look-counted (C .work) on-right (C .in-y) right-shows (ring .2) r (only-found (sym (ring .1) ∙ e))
+
+    -- and then the stone
+    module _ {g : Finding Answer} {q : List ℕ} {U : Table} {space : ℕ} (yet : room ≤ space) (stone : Answered g (λ a. Looks m w h (cut .stone) y Between a q U)) where
+      pub both-go : Goes p w h q space U
+      both-go = goes-on ring-goes (look-goes (ring-goes .work) on-stone (C .in-y) stone-still (stone .2) yet)
+
+      pub stone-countable : Countable g
+      stone-countable r e = look-counted (ring-goes .work) on-stone (C .in-y) stone-still (stone .2) r (only-found (sym (stone .1) ∙ e))

@@ -1,0 +1,2 @@
+pub mod InWork
+pub mod Ring
