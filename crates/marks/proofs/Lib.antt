@@ -1,3 +1,5 @@
 pub mod Sizes
 pub mod Work
 pub mod Cut
+pub mod Fills
+pub mod Reach

@@ -1,2 +1,3 @@
 pub mod InWork
 pub mod Ring
+pub mod Stone
