@@ -1,4 +1,4 @@
-//! Claims: the picture, and the counts of rows, pixels and pushes.
+//! Claims: the picture, the rows in the order met, and the counts of rows, pixels and pushes.
 use crate::ours::{self, Seed};
 use crate::pictures::{bitmap, checkerboard, comb, maze, nth, painted, rings, spiral, Picture};
 use crate::random::Random;
@@ -11,7 +11,7 @@ const SAME: u8 = 7;
 const BEFORE: usize = 77;
 
 pub fn compare(seed: u64, count: u64) -> bool {
-    let mut lent = Lent { stack: vec![0; 640_000] };
+    let mut lent = Lent { stack: vec![0; 640_000], rows: vec![0; 3 * 640_000] };
     let reports = [
         small(&mut lent),
         coloured(&mut lent, &mut Random::new(seed, "coloured"), count),
@@ -25,9 +25,10 @@ pub fn compare(seed: u64, count: u64) -> bool {
     agreed
 }
 
-/// The stack that every claim borrows; it is never cleared.
+/// What every claim borrows; it is never cleared.
 struct Lent {
     stack: Vec<u32>,
+    rows: Vec<usize>,
 }
 
 /// Rows, pixels, and 1 plus the pairs of rows that overlap in a column and lie on neighbouring lines.
@@ -46,7 +47,7 @@ fn counts_of(rows: &[Row]) -> [usize; 3] {
     [rows.len(), pixels, 1 + pairs]
 }
 
-/// One claim on both sides. What it leaves replaces the picture.
+/// One claim on both sides, ours with its counts and again with its rows. What it leaves replaces the picture.
 fn claim_one(report: &mut Report, lent: &mut Lent, picture: &mut Picture, seed: Seed) {
     let (w, h) = (picture.width, picture.height);
     let byte = picture.pixels[seed.y * w + seed.x];
@@ -58,13 +59,19 @@ fn claim_one(report: &mut Report, lent: &mut Lent, picture: &mut Picture, seed: 
         None if byte == 0 => ((WHITE, [BEFORE; 3]), "6, the Rust panics"),
         None => ((SAME, [BEFORE; 3]), "7, the Rust panics"),
     };
-    let mut pixels = picture.pixels.clone();
-    let mut counts = [BEFORE; 3];
-    let ours = (ours::claim(&mut pixels, w, h, &mut lent.stack[..w * h], seed, &mut counts), counts);
-    let same = ours == theirs && pixels == reach::pixels(&img);
-    report.case(same, kind, (w * h) as u64, || {
-        let equal = pixels == reach::pixels(&img);
-        format!("claim of {seed:?} in {}: ours {ours:?}, Rust {theirs:?}, pictures equal: {equal}", picture.told())
+    let (mut pixels, mut again) = (picture.pixels.clone(), picture.pixels.clone());
+    let (mut counts, mut listed) = ([BEFORE; 3], [0]);
+    let stack = &mut lent.stack[..w * h];
+    let ours = (ours::claim(&mut pixels, w, h, stack, seed, &mut counts), counts);
+    let status = ours::rows(&mut again, w, h, stack, seed, &mut lent.rows[..3 * w * h], &mut listed);
+    let in_order = lent.rows.chunks(3).take(listed[0]).eq(rows.iter().map(|r| [r.left, r.right, r.y]));
+    let same_rows = status == theirs.0 && listed[0] == rows.len() && in_order;
+    let same_pixels = pixels == reach::pixels(&img) && again == reach::pixels(&img);
+    report.case(ours == theirs && same_rows && same_pixels, kind, (w * h) as u64, || {
+        format!(
+            "claim of {seed:?} in {}: ours {ours:?}, Rust {theirs:?}; same rows in order: {same_rows}, same pixels: {same_pixels}",
+            picture.told()
+        )
     });
     picture.pixels = pixels;
 }
@@ -86,6 +93,17 @@ fn small(lent: &mut Lent) -> Report {
     report
 }
 
+/// A seed that is seldom white, and a target.
+fn some_seed(r: &mut Random, picture: &Picture) -> Seed {
+    let mut at = r.below(picture.pixels.len());
+    for _ in 0..6 {
+        if picture.pixels[at] == 0 {
+            at = r.below(picture.pixels.len());
+        }
+    }
+    Seed { x: at % picture.width, y: at / picture.width, target: r.pick(&[2, 3, 4]) }
+}
+
 /// Several claims, one after the other, in pictures of many bytes.
 fn coloured(lent: &mut Lent, r: &mut Random, count: u64) -> Report {
     let mut report = Report::new("claims in pictures of many bytes");
@@ -94,7 +112,7 @@ fn coloured(lent: &mut Lent, r: &mut Random, count: u64) -> Report {
         let (width, height) = (r.below(reach) + 1, r.below(reach) + 1);
         let mut picture = painted(r, width, height);
         for _ in 0..8 {
-            let seed = Seed { x: r.below(width), y: r.below(height), target: r.pick(&[2, 3, 4]) };
+            let seed = some_seed(r, &picture);
             claim_one(&mut report, lent, &mut picture, seed);
         }
     }
@@ -113,7 +131,7 @@ fn large(lent: &mut Lent, r: &mut Random) -> Report {
         shapes.extend((0..12).map(|_| painted(r, side / 2 + 1, side)));
         for mut shape in shapes {
             for _ in 0..6 {
-                let seed = Seed { x: r.below(shape.width), y: r.below(shape.height), target: r.pick(&[2, 3, 4]) };
+                let seed = some_seed(r, &shape);
                 claim_one(&mut report, lent, &mut shape, seed);
             }
         }

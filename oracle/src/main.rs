@@ -7,6 +7,7 @@ mod pictures;
 mod prepare;
 mod random;
 mod report;
+mod speed;
 
 use std::process::exit;
 
@@ -19,9 +20,10 @@ fn main() {
     let agreed = match words.first().map(String::as_str) {
         Some("geometry") => geometry::compare(seed, count(10_000_000)),
         Some("prepare") => prepare::compare(seed, count(20_000)),
-        Some("claim") => fill::compare(seed, count(500_000)),
+        Some("claim") => fill::compare(seed, count(800_000)),
+        Some("speed") => speed::measure(seed, count(25) as usize),
         _ => {
-            eprintln!("oracle: say what to compare: geometry, prepare or claim");
+            eprintln!("oracle: say what to run: geometry, prepare, claim or speed");
             exit(2)
         }
     };

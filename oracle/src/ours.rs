@@ -28,6 +28,21 @@ extern "C" {
         counts: *mut usize,
         room: usize,
     ) -> u8;
+    fn elmetzhur_rows(
+        pic: *mut u8,
+        n: usize,
+        width: usize,
+        height: usize,
+        stack: *mut u32,
+        entries: usize,
+        x: usize,
+        y: usize,
+        target: u8,
+        rows: *mut usize,
+        places: usize,
+        count: *mut usize,
+        room: usize,
+    ) -> u8;
 }
 
 /// The whole number nearest to x.
@@ -93,6 +108,28 @@ pub fn claim(pic: &mut [u8], width: usize, height: usize, stack: &mut [u32], see
             seed.y,
             seed.target,
             counts.as_mut_ptr(),
+            room,
+        )
+    }
+}
+
+/// Claims a piece: its rows in the order met, left, right and line of each, and how many they are.
+pub fn rows(pic: &mut [u8], width: usize, height: usize, stack: &mut [u32], seed: Seed, rows: &mut [usize], count: &mut [usize]) -> u8 {
+    let (pixels, entries, places, room) = (pic.len(), stack.len(), rows.len(), count.len());
+    unsafe {
+        elmetzhur_rows(
+            pic.as_mut_ptr(),
+            pixels,
+            width,
+            height,
+            stack.as_mut_ptr(),
+            entries,
+            seed.x,
+            seed.y,
+            seed.target,
+            rows.as_mut_ptr(),
+            places,
+            count.as_mut_ptr(),
             room,
         )
     }

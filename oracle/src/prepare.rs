@@ -89,7 +89,7 @@ fn accepts(r: &mut Random, count: u64) -> Report {
 
 fn accept_one(report: &mut Report, picture: &Picture) {
     let (w, h) = (picture.width, picture.height);
-    let theirs = unless_panic(|| reach::accept(w, h, &picture.pixels)).is_some();
+    let theirs = unless_panic(|| reach::accept(w, h, picture.pixels.clone().into())).is_some();
     let ours = ours::accept(&picture.pixels, w, h);
     let kind = if theirs { "bitmap" } else { "4, the Rust panics" };
     report.case(ours == if theirs { 0 } else { BYTE }, kind, (w * h) as u64, || {

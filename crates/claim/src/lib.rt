@@ -45,7 +45,7 @@ fn paintable(byte: u8, target: u8) -> Verdict
 }
 
 // All tests before a claim: 1, 2, 3, 5, 8, 6, 7.
-fn judge(
+pub fn judge(
     pic: &[u8],
     width: usize,
     height: usize,

@@ -1,3 +1,4 @@
 pub mod Tell
 pub mod Reach
 pub mod Scanned
+pub mod Listing

@@ -60,12 +60,14 @@ module _ {A : Type 0} where
   stored-two (w ∷ vs) u v [] few = absurd (omega arith)
   stored-two (w ∷ vs) u v (x ∷ s) few = ap (λ (t : List A). w ∷ t) (stored-two vs u v s (omega arith))
 
-  -- three values stored one behind the other
-  pub stored-three : (a b c : A) (s : List A) → 3 ≤ length s → set (set (set s 0 a) 1 b) 2 c ≡ a ∷ b ∷ c ∷ drop 3 s
-  stored-three a b c [] few = absurd (omega arith)
-  stored-three a b c (x ∷ []) few = absurd (omega arith)
-  stored-three a b c (x ∷ y ∷ []) few = absurd (omega arith)
-  stored-three a b c (x ∷ y ∷ z ∷ s) enough = refl
+  -- three of them
+  pub stored-three : (vs : List A) (a b c : A) (s : List A) → suc (suc (length vs)) < length s → set (set (set (vs ++ drop (length vs) s) (length vs) a) (suc (length vs)) b) (suc (suc (length vs))) c ≡ (vs ++ (a ∷ b ∷ c ∷ [])) ++ drop (suc (suc (suc (length vs)))) s
+  stored-three [] a b c [] few = absurd (omega arith)
+  stored-three [] a b c (x ∷ []) few = absurd (omega arith)
+  stored-three [] a b c (x ∷ y ∷ []) few = absurd (omega arith)
+  stored-three [] a b c (x ∷ y ∷ z ∷ s) few = refl
+  stored-three (w ∷ vs) a b c [] few = absurd (omega arith)
+  stored-three (w ∷ vs) a b c (x ∷ s) few = ap (λ (t : List A). w ∷ t) (stored-three vs a b c s (omega arith))
 
   -- eight values stored one behind the other
   module _ (v0 v1 v2 v3 v4 v5 v6 v7 : A) where

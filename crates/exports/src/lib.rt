@@ -8,4 +8,5 @@ mod pictures;
 mod place;
 mod put;
 mod round;
+mod rows;
 mod scan;

@@ -28,8 +28,8 @@ pub fn prepare(w: usize, h: usize, pixels: Box<[u8]>) -> Picture {
 }
 
 /// Takes a bitmap; a byte above 1 panics.
-pub fn accept(w: usize, h: usize, pixels: &[u8]) -> Picture {
-    PreparedImage::without_preparation(BasicImageBuffer { w, h, pixels: pixels.into() })
+pub fn accept(w: usize, h: usize, pixels: Box<[u8]>) -> Picture {
+    PreparedImage::without_preparation(BasicImageBuffer { w, h, pixels })
 }
 
 /// Repaints the piece at (x, y), and hands each row over as it is met.

@@ -1,4 +1,5 @@
 -- `put_counts` writes three counts into the first places. Assumes nothing.
+use mathlib.Core.List.{[]}
 use native.Mathlib.Omega.{arith}
 use lib.ListN.{length-set}
 use Rattle.exports.specs.Claims.{countValues}
@@ -23,7 +24,7 @@ returns : tie.Need-returns
 unfolding countValues
 returns c =
     let n = c .args .n in
-    tell-values _ (stored-three (n .rows) (n .pixels) (n .pushes) (c .args .out .now) (c .pre))
+    tell-values _ (stored-three [] (n .rows) (n .pixels) (n .pushes) (c .args .out .now) (c .pre))
 
 pub put-counts-spec : {M : Type 1} → statement M
 put-counts-spec =
