@@ -13,7 +13,7 @@ use Rattle.capstones.specs.declared.CapStone.{CapStone}
 use Rattle.capstones.specs.Blank.{noStone}
 use Rattle.match_capstones.specs.Only.{only}
 use Rattle.match_capstones.specs.Neighbors.{Other, other, others}
-use Rattle.match_capstones.specs.All.{All, all-none, all-one, Pairwise}
+use Rattle.match_capstones.specs.All.{All, all-none, all-one, Pairwise, Across}
 
 pub all-append : {A : Type 0} {P : A → Type 0} {a b : List A} → All P a → All P b → All P (a ++ b)
 all-append all-none q = q
@@ -32,6 +32,10 @@ pub all-every : {A : Type 0} {P Q : A → Type 0} {l : List A} → ((x : A) → 
 all-every each all-none = all-none
 all-every each (all-one p ps) = all-one (each _ p) (all-every each ps)
 
+pub all-both : {A : Type 0} {P Q : A → Type 0} {l : List A} → All P l → All Q l → All (λ x. P x × Q x) l
+all-both all-none all-none = all-none
+all-both (all-one p ps) (all-one q qs) = all-one (p, q) (all-both ps qs)
+
 pub all-map : {A B : Type 0} {P : A → Type 0} {l : List A} (Q : B → Type 0) (f : A → B) → ((x : A) → P x → Q (f x)) → All P l → All Q (map f l)
 all-map Q f each all-none = all-none
 all-map Q f each (all-one p ps) = all-one (each _ p) (all-map Q f each ps)
@@ -40,10 +44,6 @@ all-map Q f each (all-one p ps) = all-one (each _ p) (all-map Q f each ps)
 pub all-any : {A : Type 0} (l : List A) → All (λ (_ : A). Unit {0}) l
 all-any [] = all-none
 all-any (x ∷ l) = all-one tt (all-any l)
-
--- every element of a list has the relation S to every one of another
-abbrev pub Across : {A : Type 0} → (A → A → Type 0) → List A → List A → Type 0
-Across S a b = All (λ x. All (S x) b) a
 
 module _ {A : Type 0} (S : A → A → Type 0) where
   pub pairwise-append : (a b : List A) → Pairwise S a → Pairwise S b → Across S a b → Pairwise S (a ++ b)

@@ -1,12 +1,11 @@
 -- Ranking is an order: nothing ranks before what ranks before it, and what does not rank before a second, which does not rank before a third, does not rank before the third.
 -- So it is with every float, of either sign, infinite, or no number. Assumes nothing.
 use Prim.Native.Nat.{ℕ, zero, suc, _+_, _*_, _≤_, _<_}
-use native.Mathlib.Nat.{mul-pos, zero-lt-suc, zero-mul}
+use native.Mathlib.Nat.{mul-pos, zero-lt-suc}
 use native.Mathlib.Omega.{arith}
 use mathlib.Core.Path.{_≡_, refl, sym, ap, _∙_}
-use mathlib.Core.Bool.{Bool, true, false, _||_, or-false, true≢false, false≢true}
+use mathlib.Core.Bool.{Bool, true, false, or-false, true≢false, false≢true}
 use borrow.Author.Tests.{ltb-true, ltb-false, le-ltb}
-use lib.Dec.{ltb}
 use lib.IntN.{ℤ}
 use lib.Ieee.{Float, nan, inf, fin, up, down, below, lt, isNan}
 use lib.Ieee.Fits.{down-pos}

@@ -5,7 +5,7 @@ use native.Mathlib.Decide.{decLe}
 use native.Mathlib.Omega.{arith}
 use mathlib.Core.Path.{_≡_}
 use mathlib.Core.Logic.{by-cases}
-use mathlib.Core.List.{List, flatMap}
+use mathlib.Core.List.{List}
 use lib.ListN.{length}
 use Rattle.match_capstones.specs.Scores.{viable, setOf, oneSet, setsOf, made}
 use Rattle.match_capstones.specs.declared.Neighbor.{Neighbor}

@@ -1,9 +1,9 @@
 -- What a ranking tells determines it: two that tell the same finding are the same. Assumes nothing.
 use Prim.Native.Nat.{ℕ}
 use native.Mathlib.Omega.{arith}
-use mathlib.Core.Path.{_≡_, refl, sym, ap, ap₂, _∙_}
+use mathlib.Core.Path.{_≡_, sym, ap, ap₂, _∙_}
 use mathlib.Core.List.{List}
-use Rattle.refusals.specs.Finding.{Finding, found, refused, refusedBy}
+use Rattle.refusals.specs.Finding.{Finding}
 use Rattle.refusals.proofs.Distinct.{number-only}
 use Rattle.match_capstones.specs.Answer.{meaning, Tells}
 use Rattle.match_capstones.specs.declared.Pair.{Pair}

@@ -2,7 +2,7 @@
 use mathlib.Core.Path.{_≡_, refl}
 use mathlib.Core.Bool.{true, false}
 use lib.IntN.{pos, negsuc}
-use lib.Ieee.{Float, nan, inf, fin, lt, add, sub, mul, div, ofInt, isNan}
+use lib.Ieee.{nan, inf, fin, lt, sub, div, ofInt, isNan}
 use Rattle.floats.specs.Float64.{_⊘_, float}
 use Rattle.match_capstones.specs.Neighbors.{absolute, middle, fifth}
 use Rattle.match_capstones.specs.Scores.{scoreOf, viable}

@@ -1,18 +1,17 @@
 -- A stone is not in line both ways: no float that is not negative is below a fifth of itself, so two of them are not each below a fifth of the other. Assumes nothing.
-use Prim.Native.Nat.{ℕ, zero, suc, _+_, _-_, _*_, _^_, _≤_, _<_}
+use Prim.Native.Nat.{ℕ, zero, suc, _+_, _*_, _^_, _≤_}
 use native.Mathlib.Nat.{mul-pos, mul-assoc, mul-left-comm, le-refl}
 use native.Mathlib.Omega.{arith}
 use mathlib.Core.Path.{_≡_, refl, sym, ap, _∙_}
-use mathlib.Core.Bool.{Bool, true, false, not, _&&_, _||_, Bool·beq, true≢false, false≢true}
-use borrow.Author.Tests.{ltb-true, ltb-false, eqb-true, le-ltb}
-use lib.Dec.{T, ltb, eqb}
-use lib.IntN.{ℤ, pos, negsuc}
-use lib.Pow.{pow-pos, pow-add}
-use lib.Ieee as Ieee
-use lib.Ieee.{Float, nan, inf, fin, binary64, up, down, below, level, lt, eq, le, mul, sub, round, fits, isNan}
-use lib.Ieee.Fits.{down-pos, sub-fits}
+use mathlib.Core.Bool.{Bool, true, false, _||_, true≢false, false≢true}
+use borrow.Author.Tests.{eqb-true, le-ltb}
+use lib.Dec.{T, eqb}
+use lib.IntN.{ℤ}
+use lib.Pow.{pow-pos}
+use lib.Ieee.{Float, nan, inf, fin, binary64, up, down, below, level, lt, le, mul, round, fits, isNan}
+use lib.Ieee.Fits.{down-pos}
 use lib.Ieee.Order.{round-mono, le-of-values}
-use Rattle.floats.specs.Float64.{_⊖_, _⊗_}
+use Rattle.floats.specs.Float64.{_⊗_}
 use Rattle.match_capstones.specs.Neighbors.{absolute, fifth, inLine}
 use Rattle.match_capstones.specs.Order.{ranksBefore}
 use Rattle.match_capstones.proofs.Floats.{and-both}

@@ -5,8 +5,8 @@ use native.Mathlib.Omega.{arith}
 use mathlib.Core.Path.{_≡_, refl}
 use mathlib.Core.Bool.{Bool, true, false, _&&_, true≢false, false≢true}
 use borrow.Author.Tests.{ltb-true, ltb-false, eqb-true, eq-eqb}
-use lib.IntN.{ℤ, pos, negsuc}
-use lib.Dec.{ltb, eqb}
+use lib.IntN.{pos, negsuc}
+use lib.Dec.{eqb}
 use lib.Pow.{pow-pos}
 use lib.Ieee.{Float, nan, inf, fin, binary64, up, down, lt, eq, ne, neg, fits, isNan}
 use lib.Ieee.Fits.{up-pos}

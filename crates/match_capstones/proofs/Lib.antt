@@ -1,16 +1,16 @@
-pub mod Floats
-pub mod Arrays
-pub mod Next
-pub mod Count
+mod Floats
+mod Exact
 pub mod Before
-pub mod Swap
-pub mod Rising
-pub mod Exact
-pub mod Fifth
-pub mod All
+mod Fifth
+mod All
+mod Arrays
+mod Next
 pub mod Apart
+mod Count
+mod Swap
+mod Rising
 pub mod Meaning
 pub mod Pairs
-pub mod Determined
 pub mod Refusals
+pub mod Determined
 pub mod Examples

@@ -2,7 +2,7 @@
 -- Assumes nothing.
 use Prim.Native.Nat.{ℕ}
 use mathlib.Core.Path.{_≡_, refl, sym, ap, ap₂, _∙_}
-use mathlib.Core.Bool.{Bool, true, false, not, _&&_, true≢false}
+use mathlib.Core.Bool.{Bool, true, false, not, true≢false}
 use mathlib.Core.List.{List, [], _∷_, _++_, map, flatMap, nil≢cons, cons≢nil, head-eq-of-cons-eq, append-cancel-left}
 use borrow.Author.Tests.{not-true}
 use lib.Ieee.{Float}
@@ -12,36 +12,30 @@ use Rattle.match_capstones.specs.All.{All, all-none, all-one}
 use Rattle.match_capstones.specs.Neighbors.{othersOf, hlist, vlist}
 use Rattle.match_capstones.specs.Scores.{made}
 use Rattle.match_capstones.specs.Answer.{pairOf, pairsOf}
-use Rattle.match_capstones.specs.Order.{ranksBefore, alike, Sorted, alikes, RankingOf, inserted, ranked}
+use Rattle.match_capstones.specs.Order.{ranksBefore, alike, Sorted, alikes, RankingOf, ranked}
 use Rattle.match_capstones.specs.declared.NeighborSet.{NeighborSet}
 use Rattle.match_capstones.proofs.Floats.{and-both}
 use Rattle.match_capstones.proofs.Before.{once-before, not-before, never-itself}
 use Rattle.match_capstones.proofs.All.{all-every, all-flatMap, all-only}
-use Rattle.match_capstones.proofs.Swap.{sooner, passes, stops, alone}
+use Rattle.match_capstones.proofs.Swap.{sooner, Insertion, at-end, further, here, insertion}
 
 -- ---- sorted
 
 -- what s and all of a list have, all of the list with s have
-pub all-inserted : {P : NeighborSet → Type 0} {l : List NeighborSet} (s : NeighborSet) → P s → All P l → All P (inserted s l)
-all-inserted {P} s p all-none = rw alone (all-one p all-none)
-all-inserted {P} s p (all-one {x = t} {l = l} q qs) = either (sooner t s) refl (all-inserted s p qs)
-  where
-    either : (x : Bool) → sooner t s ≡ x → All P (inserted s l) → All P (inserted s (t ∷ l))
-    either true e rest = rw (passes s t l e) (all-one q rest)
-    either false e rest = rw (stops s t l e) (all-one p (all-one q qs))
+pub all-in : {P : NeighborSet → Type 0} {s : NeighborSet} {l r : List NeighborSet} → Insertion s l r → P s → All P l → All P r
+all-in at-end p all-none = all-one p all-none
+all-in (further e i) p (all-one q qs) = all-one q (all-in i p qs)
+all-in (here e) p qs = all-one p qs
 
-sorted-inserted : (s : NeighborSet) (l : List NeighborSet) → Sorted l → Sorted (inserted s l)
-sorted-inserted s [] w = rw alone (all-none, tt)
-sorted-inserted s (t ∷ l) w = either (sooner t s) refl (sorted-inserted s l (w .1))
-  where
-    either : (x : Bool) → sooner t s ≡ x → Sorted (inserted s l) → Sorted (inserted s (t ∷ l))
-    either true e rest = rw (passes s t l e) (all-inserted s (once-before (t .score) (s .score) e) (w .0), rest)
-    either false e rest = rw (stops s t l e) (all-one e (all-every (λ q h. not-before (s .score) (t .score) (q .score) e h) (w .0)), w)
+sorted-in : {s : NeighborSet} {l r : List NeighborSet} → Insertion s l r → Sorted l → Sorted r
+sorted-in at-end w = (all-none, tt)
+sorted-in {s = s} (further {t = t} e i) w = (all-in i (once-before (t .score) (s .score) e) (w .0), sorted-in i (w .1))
+sorted-in {s = s} (here {t = t} e) w = (all-one e (all-every (λ q h. not-before (s .score) (t .score) (q .score) e h) (w .0)), w)
 
 pub ranked-sorted : (l : List NeighborSet) → Sorted (ranked l)
 unfolding ranked
 ranked-sorted [] = tt
-ranked-sorted (s ∷ l) = sorted-inserted s (ranked l) (ranked-sorted l)
+ranked-sorted (s ∷ l) = sorted-in (insertion s (ranked l)) (ranked-sorted l)
 
 -- ---- those that rank alike, as they were made
 
@@ -58,22 +52,18 @@ either-order true false s t l apart = refl
 either-order false true s t l apart = refl
 either-order false false s t l apart = refl
 
-alikes-inserted : (x : Float) (s : NeighborSet) (l : List NeighborSet) → alikes x (inserted s l) ≡ alikes x (s ∷ l)
+alikes-in : {s : NeighborSet} {l r : List NeighborSet} (x : Float) → Insertion s l r → alikes x r ≡ alikes x (s ∷ l)
 unfolding flatMap
-alikes-inserted x s [] = rw alone
-alikes-inserted x s (t ∷ l) = either (sooner t s) refl (alikes-inserted x s l)
-  where
-    either : (b : Bool) → sooner t s ≡ b → alikes x (inserted s l) ≡ alikes x (s ∷ l) → alikes x (inserted s (t ∷ l)) ≡ alikes x (s ∷ t ∷ l)
-    either true e same =
-        ap (alikes x) (passes s t l e)
-        ∙ ap (λ (r : List NeighborSet). only (alike x (t .score)) t ++ r) same
-        ∙ either-order (alike x (s .score)) (alike x (t .score)) s t (alikes x l) (λ a b. true≢false (sym e ∙ alike-both x s t a b))
-    either false e same = rw (stops s t l e)
+alikes-in x at-end = refl
+alikes-in {s = s} x (further {t = t} {l = l} e i) =
+    ap (λ (r : List NeighborSet). only (alike x (t .score)) t ++ r) (alikes-in x i)
+    ∙ either-order (alike x (s .score)) (alike x (t .score)) s t (alikes x l) (λ a b. true≢false (sym e ∙ alike-both x s t a b))
+alikes-in x (here e) = refl
 
 ranked-same : (x : Float) (l : List NeighborSet) → alikes x (ranked l) ≡ alikes x l
 unfolding flatMap ranked
 ranked-same x [] = refl
-ranked-same x (s ∷ l) = alikes-inserted x s (ranked l) ∙ ap (λ (r : List NeighborSet). only (alike x (s .score)) s ++ r) (ranked-same x l)
+ranked-same x (s ∷ l) = alikes-in x (insertion s (ranked l)) ∙ ap (λ (r : List NeighborSet). only (alike x (s .score)) s ++ r) (ranked-same x l)
 
 pub ranked-is : (l : List NeighborSet) → RankingOf l (ranked l)
 ranked-is l = record { sorted = ranked-sorted l; same = λ x. ranked-same x l }

@@ -4,8 +4,8 @@ use Prim.Native.Nat.{ℕ, suc, _+_, _≤_, _<_}
 use native.Mathlib.Nat.{zero-add}
 use native.Mathlib.Omega.{arith}
 use mathlib.Core.Path.{_≡_, refl, sym, ap, _∙_}
-use mathlib.Core.Bool.{Bool, true, false, not}
-use mathlib.Core.List.{List, [], _∷_, map, flatMap}
+use mathlib.Core.Bool.{true, not}
+use mathlib.Core.List.{List, [], _∷_, map}
 use lib.Dec.{eqb}
 use lib.Ieee.{Float}
 use lib.ListN.{length, getD, length-map}
@@ -14,21 +14,20 @@ use Rattle.geometry.specs.declared.GridPoint.{GridPoint}
 use Rattle.capstones.specs.declared.CapStone.{CapStone}
 use Rattle.capstones.specs.Blank.{noStone}
 use Rattle.match_capstones.specs.Only.{only}
-use Rattle.match_capstones.specs.All.{All, all-none, all-one, Pairwise}
+use Rattle.match_capstones.specs.All.{All, all-none, all-one, Pairwise, Across}
 use Rattle.match_capstones.specs.Neighbors.{offset, inLine, neighbor, oneInLine, Other, other, others, neighbors, othersOf, hlist, vlist}
 use Rattle.match_capstones.specs.Scores.{viable, setOf, oneSet, setsOf, made}
-use Rattle.match_capstones.specs.Order.{inserted, ranked}
+use Rattle.match_capstones.specs.Order.{ranked}
 use Rattle.refusals.specs.Limits.{mostStones}
 use Rattle.match_capstones.specs.Answer.{mostPairs, pairOf, pairsOf}
 use Rattle.match_capstones.specs.Proper.{Proper, Differ, Once}
 use Rattle.match_capstones.specs.declared.Neighbor.{Neighbor}
 use Rattle.match_capstones.specs.declared.NeighborSet.{NeighborSet}
-use Rattle.match_capstones.specs.declared.Pair.{Pair}
-use Rattle.match_capstones.proofs.All.{all-only, all-flatMap, all-every, all-any, all-map, all-others, pairwise-append, pairwise-only, pairwise-flatMap}
+use Rattle.match_capstones.proofs.All.{all-only, all-flatMap, all-every, all-both, all-any, all-map, all-others, pairwise-append, pairwise-only, pairwise-flatMap}
 use Rattle.match_capstones.proofs.Apart.{seen-apart, lists-few}
 use Rattle.match_capstones.proofs.Count.{made-few, product-few}
-use Rattle.match_capstones.proofs.Swap.{sooner, passes, stops, alone}
-use Rattle.match_capstones.proofs.Meaning.{all-inserted}
+use Rattle.match_capstones.proofs.Swap.{Insertion, at-end, further, here, insertion}
+use Rattle.match_capstones.proofs.Meaning.{all-in}
 
 -- ---- what the neighbours are
 
@@ -63,27 +62,32 @@ module _ (stones : List CapStone) (idx : ℕ) where
           all-only (Beside stones idx across along) (inLine (across (o .at)) (along (o .at))) (neighbor (o .index) (along (o .at)))
           (λ t. record { low = s .low; other = s .other; line = rw (s .at) at t })
 
-  -- ---- what the pairs are
+  -- no stone is in both lists
+  pub lists-disjoint : Across (λ hn vn. hn .index ≡ vn .index → ⊥) (hlist (othersOf stones idx)) (vlist (othersOf stones idx))
+  lists-disjoint = all-every (λ hn h. all-every (λ vn v. apart hn vn h v) (all-beside (λ p. p .v) (λ p. p .u))) (all-beside (λ p. p .u) (λ p. p .v))
+    where
+      apart : (hn vn : Neighbor) → Beside stones idx (λ p. p .u) (λ p. p .v) hn → Beside stones idx (λ p. p .v) (λ p. p .u) vn → hn .index ≡ vn .index → ⊥
+      apart hn vn h v e = seen-apart (getD stones idx noStone .c) (getD stones (hn .index) noStone .center) (h .line) (rw (sym e) at (v .line))
 
-  proper : (hn vn : Neighbor) → Beside stones idx (λ p. p .u) (λ p. p .v) hn → Beside stones idx (λ p. p .v) (λ p. p .u) vn → Proper (length stones) idx (pairOf (setOf hn vn))
-  proper hn vn h v = record {
-    h-low = h .low;
-    v-low = v .low;
-    h-other = h .other;
-    v-other = v .other;
-    apart = λ e. seen-apart (getD stones idx noStone .c) (getD stones (hn .index) noStone .center) (h .line) (rw (sym e) at (v .line));
-  }
+  -- ---- what the pairs are
 
   all-made : All (λ s. Proper (length stones) idx (pairOf s)) (made (hlist (othersOf stones idx)) (vlist (othersOf stones idx)))
   all-made =
       all-flatMap (setsOf (vlist (othersOf stones idx)))
-      (λ hn h. all-flatMap (oneSet hn) (λ vn v. all-only (λ s. Proper (length stones) idx (pairOf s)) (viable (setOf hn vn .score)) (setOf hn vn) (λ _. proper hn vn h v)) (all-beside (λ p. p .v) (λ p. p .u)))
-      (all-beside (λ p. p .u) (λ p. p .v))
+      (λ hn h. all-flatMap (oneSet hn) (λ vn v. all-only _ (viable (setOf hn vn .score)) (setOf hn vn) (λ _. proper hn vn (h .0) (v .0) (v .1))) (all-both (all-beside (λ p. p .v) (λ p. p .u)) (h .1)))
+      (all-both (all-beside (λ p. p .u) (λ p. p .v)) lists-disjoint)
+    where
+      proper : (hn vn : Neighbor)
+          → Beside stones idx (λ p. p .u) (λ p. p .v) hn
+          → Beside stones idx (λ p. p .v) (λ p. p .u) vn
+          → (hn .index ≡ vn .index → ⊥)
+          → Proper (length stones) idx (pairOf (setOf hn vn))
+      proper hn vn h v apart = record { h-low = h .low; v-low = v .low; h-other = h .other; v-other = v .other; apart = apart }
 
 all-ranked : {P : NeighborSet → Type 0} {l : List NeighborSet} → All P l → All P (ranked l)
 unfolding ranked
 all-ranked all-none = all-none
-all-ranked (all-one {x = s} p ps) = all-inserted s p (all-ranked ps)
+all-ranked (all-one p ps) = all-in (insertion _ _) p (all-ranked ps)
 
 pub pairs-proper : (stones : List CapStone) (idx : ℕ) → All (Proper (length stones) idx) (pairsOf stones idx)
 unfolding pairsOf
@@ -132,18 +136,15 @@ made-unlike hns vns v w =
     hns
     v
 
-unlike-inserted : (s : NeighborSet) (l : List NeighborSet) → All (Unlike s) l → Pairwise Unlike l → Pairwise Unlike (inserted s l)
-unlike-inserted s [] p w = rw alone (all-none, tt)
-unlike-inserted s (t ∷ l) (all-one p ps) w = either (sooner t s) refl (unlike-inserted s l ps (w .1))
-  where
-    either : (x : Bool) → sooner t s ≡ x → Pairwise Unlike (inserted s l) → Pairwise Unlike (inserted s (t ∷ l))
-    either true e rest = rw (passes s t l e) (all-inserted s (λ a b. p (sym a) (sym b)) (w .0), rest)
-    either false e rest = rw (stops s t l e) (all-one p ps, w)
+unlike-in : {s : NeighborSet} {l r : List NeighborSet} → Insertion s l r → All (Unlike s) l → Pairwise Unlike l → Pairwise Unlike r
+unlike-in at-end ps w = (all-none, tt)
+unlike-in (further e i) (all-one p ps) w = (all-in i (λ a b. p (sym a) (sym b)) (w .0), unlike-in i ps (w .1))
+unlike-in (here e) ps w = (ps, w)
 
 unlike-ranked : (l : List NeighborSet) → Pairwise Unlike l → Pairwise Unlike (ranked l)
 unfolding ranked
 unlike-ranked [] w = tt
-unlike-ranked (s ∷ l) w = unlike-inserted s (ranked l) (all-ranked (w .0)) (unlike-ranked l (w .1))
+unlike-ranked (s ∷ l) w = unlike-in (insertion s (ranked l)) (all-ranked (w .0)) (unlike-ranked l (w .1))
 
 once-of : (l : List NeighborSet) → Pairwise Unlike l → Once (map pairOf l)
 once-of [] w = tt
@@ -159,18 +160,15 @@ pairs-once stones idx =
 
 -- ---- no more than 992
 
-inserted-length : (s : NeighborSet) (l : List NeighborSet) → length (inserted s l) ≡ suc (length l)
-inserted-length s [] = rw alone
-inserted-length s (t ∷ l) = either (sooner t s) refl (inserted-length s l)
-  where
-    either : (x : Bool) → sooner t s ≡ x → length (inserted s l) ≡ suc (length l) → length (inserted s (t ∷ l)) ≡ suc (suc (length l))
-    either true e rest = rw (passes s t l e, rest)
-    either false e rest = rw (stops s t l e)
+longer-in : {s : NeighborSet} {l r : List NeighborSet} → Insertion s l r → length r ≡ suc (length l)
+longer-in at-end = refl
+longer-in (further e i) = ap suc (longer-in i)
+longer-in (here e) = refl
 
 ranked-length : (l : List NeighborSet) → length (ranked l) ≡ length l
 unfolding ranked
 ranked-length [] = refl
-ranked-length (s ∷ l) = inserted-length s (ranked l) ∙ ap suc (ranked-length l)
+ranked-length (s ∷ l) = longer-in (insertion s (ranked l)) ∙ ap suc (ranked-length l)
 
 pub pairs-few : (stones : List CapStone) (idx : ℕ) → idx < length stones → length stones ≤ mostStones → length (pairsOf stones idx) ≤ mostPairs
 unfolding pairsOf

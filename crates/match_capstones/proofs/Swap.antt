@@ -1,5 +1,5 @@
 -- Two sets side by side that are not in order may change places: the list ranks as it did. And a list in order is ranked already. Assumes nothing.
-use Prim.Native.Nat.{ℕ, zero, suc, _≤_, _<_}
+use Prim.Native.Nat.{ℕ, zero, suc, _<_}
 use native.Mathlib.Omega.{arith}
 use mathlib.Core.Path.{_≡_, refl, sym, ap, _∙_}
 use mathlib.Core.Bool.{Bool, true, false, true≢false}
@@ -18,17 +18,31 @@ sooner a b = ranksBefore (a .score) (b .score)
 abbrev pub at : List NeighborSet → ℕ → NeighborSet
 at l i = getD l i noSet
 
-pub passes : (s t : NeighborSet) (l : List NeighborSet) → sooner t s ≡ true → inserted s (t ∷ l) ≡ t ∷ inserted s l
+passes : (s t : NeighborSet) (l : List NeighborSet) → sooner t s ≡ true → inserted s (t ∷ l) ≡ t ∷ inserted s l
 unfolding inserted
 passes s t l h = rw h
 
-pub stops : (s t : NeighborSet) (l : List NeighborSet) → sooner t s ≡ false → inserted s (t ∷ l) ≡ s ∷ t ∷ l
+stops : (s t : NeighborSet) (l : List NeighborSet) → sooner t s ≡ false → inserted s (t ∷ l) ≡ s ∷ t ∷ l
 unfolding inserted
 stops s t l h = rw h
 
-pub alone : (s : NeighborSet) → inserted s [] ≡ s ∷ []
+alone : (s : NeighborSet) → inserted s [] ≡ s ∷ []
 unfolding inserted
 alone s = refl
+
+-- what an insertion of s into a list makes of it
+pub data Insertion (s : NeighborSet) : List NeighborSet → List NeighborSet → Type 0 where
+  at-end : Insertion s [] (s ∷ [])
+  further : {t : NeighborSet} {l r : List NeighborSet} → sooner t s ≡ true → Insertion s l r → Insertion s (t ∷ l) (t ∷ r)
+  here : {t : NeighborSet} {l : List NeighborSet} → sooner t s ≡ false → Insertion s (t ∷ l) (s ∷ t ∷ l)
+
+pub insertion : (s : NeighborSet) (l : List NeighborSet) → Insertion s l (inserted s l)
+insertion s [] = rw alone at-end
+insertion s (t ∷ l) = either (sooner t s) refl (insertion s l)
+  where
+    either : (x : Bool) → sooner t s ≡ x → Insertion s l (inserted s l) → Insertion s (t ∷ l) (inserted s (t ∷ l))
+    either true e rest = rw (passes s t l e) (further e rest)
+    either false e rest = rw (stops s t l e) (here e)
 
 swap-inserted : (a b : NeighborSet) (l : List NeighborSet) → sooner b a ≡ true → inserted a (inserted b l) ≡ inserted b (inserted a l)
 swap-inserted a b [] h = rw (alone b, alone a, passes a b [] h, stops b a [] (once-before (b .score) (a .score) h), alone a)

@@ -1,6 +1,5 @@
 // Sets of two neighbours, one of each list, with their scores.
 use crate::Neighbor;
-use crate::NeighborLists;
 use crate::NeighborSet;
 use crate::NeighborSets;
 use crate::Neighbors;

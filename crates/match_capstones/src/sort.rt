@@ -39,7 +39,7 @@ fn moves_up(j: usize, score: f64, ahead: f64) -> bool
     ranks_before(score, ahead)
 }
 
-// The sets in order. The first i are, but for the set at place j, which is on its way up to its own.
+// The sets in order, each inserted among those before it: the first i are in order, and the set at place j moves up to its own place.
 pub fn sorted(sets: NeighborSets) -> NeighborSets
     requires { ⌜ (length (sets .all) ≡ 992) × (sets .n ≤ 992) ⌝ }
     ensures { λ r. ⌜ Holds 992 (r .all) (r .n) (ranked (take (sets .n) (sets .all))) ⌝ }

@@ -1,12 +1,11 @@
 -- `find_possible_neighbors` lists those of the stones passed that lie in line. Assumes nothing.
-use Prim.Native.Nat.{ℕ, _≤_, _<_, _-_}
-use mathlib.Core.Path.{_≡_, refl, sym, ap}
+use Prim.Native.Nat.{_≤_, _<_, _-_}
+use mathlib.Core.Path.{_≡_}
 use mathlib.Core.List.{flatMap}
 use native.Mathlib.Omega.{arith}
 use borrow.Author.Needs.{needs}
 use lib.ListN.{length, take, getD}
 use lib.Seq.{getD-take}
-use Rattle.geometry.specs.declared.GridPoint.{GridPoint}
 use Rattle.geometry.specs.declared.Perspective.{Perspective}
 use Rattle.capstones.specs.Blank.{noStone}
 use Rattle.match_capstones.specs.Arrays.{Holds}

@@ -1,9 +1,7 @@
 -- `with_neighbor` puts a stone that is in line behind the list. Assumes nothing.
-use mathlib.Core.Path.{_≡_, sym, _∙_}
-use mathlib.Core.Bool.{true, false}
+use mathlib.Core.Path.{sym, _∙_}
 use borrow.Author.Needs.{needs}
 use borrow.Author.Tests.{not-true, not-false}
-use Rattle.match_capstones.specs.Neighbors.{inLine}
 use Rattle.match_capstones.proofs.Arrays.{holds-same, holds-more}
 use Rattle.match_capstones.proofs.lists.with_neighbor.Statement.{statement}
 use Rattle.match_capstones.proofs.lists.with_neighbor.Tie as tie

@@ -1,5 +1,4 @@
 -- `find_and_rank_possible_neighbors` refuses 11 and 16, or lays out the pairs of the ranked sets. Assumes nothing.
-use Prim.Native.Nat.{_≤_, _<_}
 use native.Mathlib.Omega.{arith}
 use mathlib.Core.Path.{_≡_, sym, ap, _∙_}
 use mathlib.Core.List.{map}

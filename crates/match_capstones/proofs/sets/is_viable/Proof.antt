@@ -1,5 +1,4 @@
 -- `is_viable` keeps a score below 0.25, and one that is no number. Assumes nothing.
-use mathlib.Core.Path.{sym, _∙_}
 use lib.Ieee.{ofBits}
 use borrow.Author.Needs.{needs}
 use Rattle.match_capstones.specs.Scores.{viable}

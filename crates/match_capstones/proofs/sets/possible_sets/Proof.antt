@@ -1,5 +1,5 @@
 -- `possible_sets` holds the sets that the neighbours passed make. There is room for all: the lists have no more than 63 in all. Assumes nothing.
-use Prim.Native.Nat.{_+_, _≤_, _-_}
+use Prim.Native.Nat.{_≤_, _-_}
 use native.Mathlib.Numerals.{add-one}
 use native.Mathlib.Omega.{arith}
 use mathlib.Core.Path.{_≡_}

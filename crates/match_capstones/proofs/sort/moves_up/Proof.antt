@@ -1,5 +1,4 @@
 -- `moves_up` asks that there is a place ahead, and that the score ranks before the one there. Assumes nothing.
-use Prim.Native.Nat.{_<_}
 use native.Mathlib.Omega.{arith}
 use borrow.Author.Needs.{needs}
 use borrow.Author.Tests.{lt-ltb, le-ltb}
