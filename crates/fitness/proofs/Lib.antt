@@ -2,3 +2,6 @@ pub mod Sums
 pub mod Dark
 pub mod Decimals
 pub mod Shapes
+pub mod White
+pub mod Order
+pub mod Determined

@@ -2,10 +2,12 @@
 use Prim.Native.Nat.{ℕ, _+_, _≤_, _<_}
 use mathlib.Core.Path.{_≡_}
 use mathlib.Core.List.{List}
+use mathlib.Core.Logic.{_↔_}
 use lib.IntN.{ℤ}
 use Rattle.refusals.specs.Finding.{Finding, found, refusedBy}
 use Rattle.refusals.specs.declared.Refusal.the-variants as refusal
 use Rattle.geometry.specs.declared.Perspective.{Perspective}
+use Rattle.pieces.specs.Picture.{px}
 use Rattle.fitness.specs.Expected.{Expected, expected}
 use Rattle.fitness.specs.Score.{total, extent}
 use Rattle.fitness.specs.Seen.{cellOf}
@@ -39,3 +41,7 @@ scoreOf pic width height c cells = total (cellOf pic width height c) cells
 -- the fitness of a perspective for a grid with so many cells along a side
 abbrev pub fitnessOf : List ℕ → ℕ → ℕ → ℕ → Perspective → Finding ℤ
 fitnessOf pic width height size c = scoreOf pic width height c (expected size)
+
+-- two pictures of these sides are white at the same pixels
+abbrev pub SameWhite : ℕ → ℕ → List ℕ → List ℕ → Type 0
+SameWhite width height p q = (x y : ℕ) → x < width → y < height → (px p width x y ≡ 0) ↔ (px q width x y ≡ 0)

@@ -1,0 +1,4 @@
+pub mod Steps
+pub mod Earned
+pub mod Alike
+pub mod Determined

@@ -1,0 +1,2 @@
+pub mod Adjust
+pub mod Refine
