@@ -1,4 +1,5 @@
 pub mod Sizes
+pub mod Plain
 pub mod Work
 pub mod Cut
 pub mod Fills

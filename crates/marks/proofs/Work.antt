@@ -13,13 +13,14 @@ use Rattle.table.specs.declared.Table.{Table}
 use Rattle.table.proofs.Exact.{sound-exact}
 use Rattle.regions.specs.Found.{Answer, unclaimed}
 use Rattle.regions.specs.Tests.{Lookable}
-use Rattle.regions.specs.Lookup.{Looks, at-claimed, at-known, at-fresh, at-again}
+use Rattle.regions.specs.Lookup.{Looks}
 use Rattle.regions.specs.declared.Region.{Region}
 use Rattle.demand.specs.Run.{Event}
 use Rattle.demand.proofs.Kept.{Kept}
 use Rattle.demand.proofs.Next.{look-keeps}
 use Rattle.marks.specs.InWork.{InWork}
 use Rattle.marks.specs.Ring.{Counted}
+use Rattle.marks.proofs.Plain.{claim-answers}
 use Rattle.marks.proofs.Sizes.{some-pixels, few-pixels}
 
 -- q is in work as p was, and is white in the same places
@@ -68,13 +69,6 @@ module _ {p : List ℕ} {w h lent : ℕ} {T : Table} (W : InWork p w h lent T) {
     pub look-goes : {room : ℕ} → lent ≤ room → Goes p w h q room U
     look-goes more = goes W more (look-keeps (W .kept) can-look L .0)
 
-    -- a piece that shows a claim answers no region
-    claim-answers : Looks p w h x y T a q U → 2 ≤ px p w x y → px p w x y ≤ 4 → (r : Region) → a ≡ unclaimed r → ⊥
-    claim-answers (at-claimed C) low high r e = let z : _≡_ {A = ℕ} 0 1 = cc in omega arith
-    claim-answers (at-known N) low high r e = omega (arith, N .shows)
-    claim-answers (at-fresh F) low high r e = omega (arith, F .black)
-    claim-answers (at-again G) low high r e = omega (arith, G .black)
-
     same-region : (r s : Region) → unclaimed r ≡ unclaimed s → r ≡ s
     same-region r s e = cc
 
@@ -82,7 +76,7 @@ module _ {p : List ℕ} {w h lent : ℕ} {T : Table} (W : InWork p w h lent T) {
     pub look-counted : (r : Region) → a ≡ unclaimed r → Counted r
     look-counted r e =
         ⊎-elim
-        (λ c. absurd (claim-answers L (c .0) (c .1) r e))
+        (λ c. absurd (claim-answers L c r e))
         (λ n.
         let is : n .0 ≡ r = same-region (n .0) r (sym (n .1) ∙ e) in
         let here : Dark (W .bitmap) w h x y = (hx, hy, (λ z. dark (W .kept .paint .white x y hx hy .1 z))) in

@@ -79,10 +79,11 @@ stoneOf f n =
     let p3 = f .left .place in
     seenStone p0 p1 p2 p3 n (sightOf p0 p1 p2 p3 seven seven)
 
--- the ring at (x, y) can be filled: it shows a number
+-- the ring at (x, y) can be filled: it is neither white nor claimed
 pub record Ringed (p : List ℕ) (w h lent x y : ℕ) : Type 0 where
   pub seeded : Seeded w h (length p) lent x y
-  pub numbered : 5 ≤ px p w x y
+  pub dark : px p w x y ≡ 0 → ⊥
+  pub unclaimed : 2 ≤ px p w x y → px p w x y ≤ 4 → ⊥
 
 -- the first corner, from the rows that a fill of the ring with 4 meets
 unfoldable pub firstCorner : List ℕ → ℕ → ℕ → ℕ → ℕ → Point
