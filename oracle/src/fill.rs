@@ -32,7 +32,7 @@ struct Lent {
 }
 
 /// Rows, pixels, and 1 plus the pairs of rows that overlap in a column and lie on neighbouring lines.
-fn counts_of(rows: &[Row]) -> [usize; 3] {
+pub fn counts_of(rows: &[Row]) -> [usize; 3] {
     let pixels = rows.iter().map(|r| r.right - r.left + 1).sum();
     let mut sorted = rows.to_vec();
     sorted.sort_by_key(|r| (r.y, r.left));

@@ -7,6 +7,7 @@ mod pictures;
 mod prepare;
 mod random;
 mod report;
+mod runs;
 mod speed;
 
 use std::process::exit;
@@ -21,9 +22,10 @@ fn main() {
         Some("geometry") => geometry::compare(seed, count(10_000_000)),
         Some("prepare") => prepare::compare(seed, count(20_000)),
         Some("claim") => fill::compare(seed, count(800_000)),
+        Some("lookup") => runs::compare(seed, count(100_000)),
         Some("speed") => speed::measure(seed, count(25) as usize),
         _ => {
-            eprintln!("oracle: say what to run: geometry, prepare, claim or speed");
+            eprintln!("oracle: say what to run: geometry, prepare, claim, lookup or speed");
             exit(2)
         }
     };
