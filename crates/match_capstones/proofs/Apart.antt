@@ -12,6 +12,7 @@ use lib.Ieee.Fits.{sub-fits}
 use lib.ListN.{length, getD, length-append}
 use Rattle.points.specs.declared.Point.{Point}
 use Rattle.geometry.specs.declared.Perspective.{Perspective}
+use Rattle.geometry.specs.declared.GridPoint.{GridPoint}
 use Rattle.geometry.specs.Unmap.{unmapped}
 use Rattle.floats.specs.Float64.{_⊖_}
 use Rattle.capstones.specs.declared.CapStone.{CapStone}
@@ -30,6 +31,13 @@ seen-apart c q =
     one-way _ _
     (above-fifth (unmapped c q .u ⊖ middle) (sub-fits binary64 (unmapped c q .u) middle))
     (above-fifth (unmapped c q .v ⊖ middle) (sub-fits binary64 (unmapped c q .v) middle))
+
+pub seen-once : (c : Perspective) (q : Point) {at : GridPoint} → at ≡ offset c q → inLine (at .u) (at .v) ≡ true → inLine (at .v) (at .u) ≡ false
+seen-once c q {at} seen t = either (inLine (at .v) (at .u)) refl
+  where
+    either : (x : Bool) → inLine (at .v) (at .u) ≡ x → inLine (at .v) (at .u) ≡ false
+    either true e = absurd (seen-apart c q (rw seen at t) (rw seen at e))
+    either false e = e
 
 abbrev Apart : Other → Type 0
 Apart o = inLine (o .at .u) (o .at .v) ≡ true → inLine (o .at .v) (o .at .u) ≡ true → ⊥

@@ -5,6 +5,7 @@ mod Fifth
 mod All
 mod Arrays
 mod Next
+mod Passed
 pub mod Apart
 mod Count
 mod Swap

@@ -6,20 +6,17 @@ use native.Mathlib.Omega.{arith}
 use mathlib.Core.Path.{_≡_, refl}
 use mathlib.Core.Bool.{Bool, true, false, not}
 use mathlib.Core.List.{List, [], _∷_, _++_, append-nil, append-assoc, flatMap}
-use borrow.Author.Tests.{eq-eqb, ne-eqb}
 use lib.Dec.{eqb}
-use lib.Ieee.{Float, nan}
-use lib.ListN.{length, getD, take, set, length-append, length-take}
+use lib.Ieee.{nan}
+use lib.ListN.{length, getD, take, set, length-append}
 use lib.Seq.{take-suc, length-take-le}
 use Rattle.geometry.specs.declared.Perspective.{Perspective}
-use Rattle.geometry.specs.declared.GridPoint.{GridPoint}
 use Rattle.capstones.specs.declared.CapStone.{CapStone}
 use Rattle.match_capstones.specs.declared.Neighbor.{Neighbor}
 use Rattle.match_capstones.specs.declared.NeighborSet.{NeighborSet}
-use Rattle.capstones.specs.Blank.{noStone}
 use Rattle.match_capstones.specs.Arrays.{Holds}
 use Rattle.match_capstones.specs.Only.{only}
-use Rattle.match_capstones.specs.Neighbors.{Other, offset, inLine, neighbor, oneInLine, other, oneOther, others, neighbors}
+use Rattle.match_capstones.specs.Neighbors.{other, oneOther, others}
 use Rattle.match_capstones.proofs.Arrays.{holds-more}
 
 -- what the logic reads past the end of a list of neighbours, and of one of sets
@@ -76,26 +73,3 @@ module _ (c : Perspective) (idx : ℕ) where
   unfolding others
   others-few k [] = omega arith
   others-few k (s ∷ l) = simp length-append (omega (arith, only-few (not (eqb k idx)) (other c k s), others-few (suc k) l))
-
-module _ (across along : GridPoint → Float) where
-  -- a list of neighbours is no longer than the list of the others
-  neighbors-few : (l : List Other) → length (neighbors across along l) ≤ length l
-  neighbors-few l =
-      let few : length (neighbors across along l) ≤ length l * 1 = flatMap-few _ 1 (λ o. only-few (inLine (across (o .at)) (along (o .at))) (neighbor (o .index) (along (o .at)))) l in
-      omega arith
-
-  module _ (c : Perspective) (idx : ℕ) (l : List CapStone) (i : ℕ) where
-    -- nor than that of the stones passed
-    pub passed-few : length (neighbors across along (others c idx 0 (take i l))) ≤ i
-    passed-few = omega (arith, neighbors-few (others c idx 0 (take i l)), others-few c idx 0 (take i l), length-take i l)
-
-    -- stone idx itself adds nothing
-    pub passed-itself : i < length l → i ≡ idx → neighbors across along (others c idx 0 (take (i + 1) l)) ≡ neighbors across along (others c idx 0 (take i l))
-    passed-itself low e = rw (add-one, others-next c idx l i noStone low, eq-eqb i idx e, append-nil)
-
-    -- another adds itself, where it lies in line
-    pub passed-other : i < length l → (i ≡ idx → ⊥)
-        → let at = offset c (getD l i noStone .center) in
-        neighbors across along (others c idx 0 (take (i + 1) l)) ≡ neighbors across along (others c idx 0 (take i l)) ++ oneInLine i (across at) (along at)
-    unfolding flatMap
-    passed-other low e = rw (add-one, others-next c idx l i noStone low, ne-eqb i idx e, flatMap-append, append-nil)

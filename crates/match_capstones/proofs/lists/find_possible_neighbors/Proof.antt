@@ -1,25 +1,26 @@
--- `find_possible_neighbors` lists those of the stones passed that lie in line. Assumes nothing.
+-- `find_possible_neighbors` lists those of the stones passed that lie in line. A stone of the first list is not of the second. Assumes nothing.
 use Prim.Native.Nat.{_≤_, _<_, _-_}
-use mathlib.Core.Path.{_≡_}
+use mathlib.Core.Path.{_≡_, refl, sym, _∙_}
 use mathlib.Core.List.{flatMap}
 use native.Mathlib.Omega.{arith}
 use borrow.Author.Needs.{needs}
-use lib.ListN.{length, take, getD}
+use borrow.Author.Tests.{not-true, not-false}
+use lib.ListN.{length, getD}
 use lib.Seq.{getD-take}
 use Rattle.geometry.specs.declared.Perspective.{Perspective}
 use Rattle.capstones.specs.Blank.{noStone}
-use Rattle.match_capstones.specs.Arrays.{Holds}
-use Rattle.match_capstones.specs.Neighbors.{others, hlist, vlist}
-use Rattle.match_capstones.proofs.Next.{passed-few, passed-itself, passed-other}
+use Rattle.match_capstones.specs.Neighbors.{others}
+use Rattle.match_capstones.proofs.Apart.{seen-once}
+use Rattle.match_capstones.proofs.Passed.{Passed, passed-few, passed-itself, passed-out, passed-in}
 use Rattle.match_capstones.proofs.lists.find_possible_neighbors.Statement.{statement}
 use Rattle.match_capstones.proofs.lists.find_possible_neighbors.Tie as tie
 
 abbrev Inv-loop : tie.InvT-loop
-Inv-loop n idx stones c hs₀ vs₀ i₀ hs vs i =
-    (i ≤ n) × Holds 64 (hs .all) (hs .n) (hlist (others c idx 0 (take i stones))) × Holds 64 (vs .all) (vs .n) (vlist (others c idx 0 (take i stones)))
+Inv-loop n idx stones c hs₀ h₀ vs₀ v₀ i₀ hs h vs v i =
+    (i ≤ n) × Passed (λ p. p .u) (λ p. p .v) c idx stones hs h i × Passed (λ p. p .v) (λ p. p .u) c idx stones vs v i
 
 abbrev μ-loop : tie.MeasureT-loop
-μ-loop n idx stones c hs₀ vs₀ i₀ hs vs i = n - i
+μ-loop n idx stones c hs₀ h₀ vs₀ v₀ i₀ hs h vs v i = n - i
 
 -- the perspective of stone idx
 abbrev sight : tie.Start Inv-loop μ-loop → Perspective
@@ -31,15 +32,9 @@ mul-cap c = search needs
 array-copy-out-cap : tie.Need-array-copy-out-cap Inv-loop μ-loop
 array-copy-out-cap c = search needs
 
-no-neighbors-requires : tie.Need-no-neighbors-requires Inv-loop μ-loop
-no-neighbors-requires c κs = search needs
-
-no-neighbors-requires-2 : tie.Need-no-neighbors-requires-2 Inv-loop μ-loop
-no-neighbors-requires-2 c κs = search needs
-
 loop-holds : tie.Need-loop-holds Inv-loop μ-loop
 unfolding others flatMap
-loop-holds c = (omega arith, c .before .no-neighbors .ensures, c .no-neighbors2 .ensures)
+loop-holds c = (omega arith, record { room-is = refl; count = refl; first = refl }, record { room-is = refl; count = refl; first = refl })
 
 add-i : tie.Need-add-i Inv-loop μ-loop
 add-i c = search needs
@@ -49,13 +44,11 @@ loop-less c = search needs
 
 loop-again : tie.Need-loop-again Inv-loop μ-loop
 loop-again c =
-    let s = c .before .before .before .before .before .before .before in
+    let s = c .before .before .before .before .before in
     let l = c .before .before .loop in
     let room : length (s .args .t1) ≡ 64 = search needs in
     let low : l .i < length (s .args .t1) = omega arith in
-    let h = passed-itself (λ p. p .u) (λ p. p .v) (sight s) (s .args .idx) (s .args .t1) (l .i) low (c .if1 .taken) in
-    let v = passed-itself (λ p. p .v) (λ p. p .u) (sight s) (s .args .idx) (s .args .t1) (l .i) low (c .if1 .taken) in
-    (omega arith, rw h (l .inv .1), rw v (l .inv .2))
+    (omega arith, passed-itself (λ p. p .u) (λ p. p .v) (sight s) (s .args .idx) (s .args .t1) (l .i) low (l .inv .1) (c .if1 .taken), passed-itself (λ p. p .v) (λ p. p .u) (sight s) (s .args .idx) (s .args .t1) (l .i) low (l .inv .2) (c .if1 .taken))
 
 mul-other : tie.Need-mul-other Inv-loop μ-loop
 mul-other c = search needs
@@ -66,17 +59,26 @@ array-copy-out-other c = search needs
 offset-of-requires : tie.Need-offset-of-requires Inv-loop μ-loop
 offset-of-requires c κs = search needs
 
-with-neighbor-requires : tie.Need-with-neighbor-requires Inv-loop μ-loop
-with-neighbor-requires c κs =
-    let s = c .before .before .before .before .before .before .before .before .before in
-    let l = c .before .before .before .before .loop in
-    omega (arith, l .inv .1 .count, passed-few (λ p. p .u) (λ p. p .v) (sight s) (s .args .idx) (s .args .t1) (l .i))
+is-in-line-requires : tie.Need-is-in-line-requires Inv-loop μ-loop
+is-in-line-requires c κs = search needs
 
-with-neighbor-requires-2 : tie.Need-with-neighbor-requires-2 Inv-loop μ-loop
-with-neighbor-requires-2 c κs =
-    let s = c .before .before .before .before .before .before .before .before .before .before in
-    let l = c .before .before .before .before .before .loop in
-    omega (arith, l .inv .2 .count, passed-few (λ p. p .v) (λ p. p .u) (sight s) (s .args .idx) (s .args .t1) (l .i))
+mul-hs : tie.Need-mul-hs Inv-loop μ-loop
+mul-hs c =
+    let s = c .before .before .before .before .before .before .before .before .before in
+    let l = c .before .before .before .before .before .before .loop in
+    omega (arith, passed-few (λ p. p .u) (λ p. p .v) (sight s) (s .args .idx) (s .args .t1) (l .i) (l .inv .1))
+
+array-set-from-hs : tie.Need-array-set-from-hs Inv-loop μ-loop
+array-set-from-hs c =
+    let s = c .before .before .before .before .before .before .before .before .before in
+    let l = c .before .before .before .before .before .before .loop in
+    omega (arith, passed-few (λ p. p .u) (λ p. p .v) (sight s) (s .args .idx) (s .args .t1) (l .i) (l .inv .1))
+
+add-h : tie.Need-add-h Inv-loop μ-loop
+add-h c =
+    let s = c .before .before .before .before .before .before .before .before .before in
+    let l = c .before .before .before .before .before .before .loop in
+    omega (arith, passed-few (λ p. p .u) (λ p. p .v) (sight s) (s .args .idx) (s .args .t1) (l .i) (l .inv .1))
 
 add-i-2 : tie.Need-add-i-2 Inv-loop μ-loop
 add-i-2 c = search needs
@@ -86,19 +88,75 @@ loop-less-2 c = search needs
 
 loop-again-2 : tie.Need-loop-again-2 Inv-loop μ-loop
 loop-again-2 c =
-    let s = c .before .before .before .before .before .before .before .before .before .before .before in
+    let s = c .before .before .before .before .before .before .before .before .before in
     let l = c .before .before .before .before .before .before .loop in
     let room : length (s .args .t1) ≡ 64 = search needs in
     let low : l .i < length (s .args .t1) = omega arith in
     let other = c .before .before .before .before .if1 .left in
-    let h = passed-other (λ p. p .u) (λ p. p .v) (sight s) (s .args .idx) (s .args .t1) (l .i) low other in
-    let v = passed-other (λ p. p .v) (λ p. p .u) (sight s) (s .args .idx) (s .args .t1) (l .i) low other in
     let seen = c .before .before .offset-of .ensures in
-    (omega arith, rw (h, ← seen) (c .before .with-neighbor .ensures _ (l .inv .1)), rw (v, ← seen) (c .with-neighbor2 .ensures _ (l .inv .2)))
+    let along-v = sym (c .before .is-in-line .ensures) ∙ c .if2 .taken in
+    (omega arith, passed-in (λ p. p .u) (λ p. p .v) (sight s) (s .args .idx) (s .args .t1) (l .i) low (l .inv .1) other seen along-v (omega arith), passed-out (λ p. p .v) (λ p. p .u) (sight s) (s .args .idx) (s .args .t1) (l .i) low (l .inv .2) other seen (seen-once (sight s) (getD (s .args .t1) (l .i) noStone .center) seen along-v))
+
+is-in-line-requires-2 : tie.Need-is-in-line-requires-2 Inv-loop μ-loop
+is-in-line-requires-2 c κs = search needs
+
+add-i-3 : tie.Need-add-i-3 Inv-loop μ-loop
+add-i-3 c = search needs
+
+loop-less-3 : tie.Need-loop-less-3 Inv-loop μ-loop
+loop-less-3 c = search needs
+
+loop-again-3 : tie.Need-loop-again-3 Inv-loop μ-loop
+loop-again-3 c =
+    let s = c .before .before .before .before .before .before .before .before .before .before .before in
+    let l = c .before .before .before .before .before .before .before .before .loop in
+    let room : length (s .args .t1) ≡ 64 = search needs in
+    let low : l .i < length (s .args .t1) = omega arith in
+    let other = c .before .before .before .before .before .before .if1 .left in
+    let seen = c .before .before .before .before .offset-of .ensures in
+    let not-along-v = sym (c .before .before .before .is-in-line .ensures) ∙ c .before .before .if2 .left in
+    let not-along-u = sym (c .before .is-in-line2 .ensures) ∙ not-true _ (c .if3 .taken) in
+    (omega arith, passed-out (λ p. p .u) (λ p. p .v) (sight s) (s .args .idx) (s .args .t1) (l .i) low (l .inv .1) other seen not-along-v, passed-out (λ p. p .v) (λ p. p .u) (sight s) (s .args .idx) (s .args .t1) (l .i) low (l .inv .2) other seen not-along-u)
+
+mul-vs : tie.Need-mul-vs Inv-loop μ-loop
+mul-vs c =
+    let s = c .before .before .before .before .before .before .before .before .before .before .before in
+    let l = c .before .before .before .before .before .before .before .before .loop in
+    omega (arith, passed-few (λ p. p .v) (λ p. p .u) (sight s) (s .args .idx) (s .args .t1) (l .i) (l .inv .2))
+
+array-set-from-vs : tie.Need-array-set-from-vs Inv-loop μ-loop
+array-set-from-vs c =
+    let s = c .before .before .before .before .before .before .before .before .before .before .before in
+    let l = c .before .before .before .before .before .before .before .before .loop in
+    omega (arith, passed-few (λ p. p .v) (λ p. p .u) (sight s) (s .args .idx) (s .args .t1) (l .i) (l .inv .2))
+
+add-v : tie.Need-add-v Inv-loop μ-loop
+add-v c =
+    let s = c .before .before .before .before .before .before .before .before .before .before .before in
+    let l = c .before .before .before .before .before .before .before .before .loop in
+    omega (arith, passed-few (λ p. p .v) (λ p. p .u) (sight s) (s .args .idx) (s .args .t1) (l .i) (l .inv .2))
+
+add-i-4 : tie.Need-add-i-4 Inv-loop μ-loop
+add-i-4 c = search needs
+
+loop-less-4 : tie.Need-loop-less-4 Inv-loop μ-loop
+loop-less-4 c = search needs
+
+loop-again-4 : tie.Need-loop-again-4 Inv-loop μ-loop
+loop-again-4 c =
+    let s = c .before .before .before .before .before .before .before .before .before .before .before in
+    let l = c .before .before .before .before .before .before .before .before .loop in
+    let room : length (s .args .t1) ≡ 64 = search needs in
+    let low : l .i < length (s .args .t1) = omega arith in
+    let other = c .before .before .before .before .before .before .if1 .left in
+    let seen = c .before .before .before .before .offset-of .ensures in
+    let not-along-v = sym (c .before .before .before .is-in-line .ensures) ∙ c .before .before .if2 .left in
+    let along-u = sym (c .before .is-in-line2 .ensures) ∙ not-false _ (c .if3 .left) in
+    (omega arith, passed-out (λ p. p .u) (λ p. p .v) (sight s) (s .args .idx) (s .args .t1) (l .i) low (l .inv .1) other seen not-along-v, passed-in (λ p. p .v) (λ p. p .u) (sight s) (s .args .idx) (s .args .t1) (l .i) low (l .inv .2) other seen along-u (omega arith))
 
 returns : tie.Need-returns Inv-loop μ-loop
 returns c =
-    let s = c .before .before .before .before .before .before in
+    let s = c .before .before .before .before in
     let l = c .before .loop in
     let all : l .i ≡ s .args .n = omega arith in
     let own = getD-take (s .args .n) (s .args .t1) (s .args .idx) noStone (s .pre .1) in
@@ -112,8 +170,6 @@ find-possible-neighbors-spec =
     μ-loop
     mul-cap
     array-copy-out-cap
-    no-neighbors-requires
-    no-neighbors-requires-2
     loop-holds
     add-i
     loop-less
@@ -121,9 +177,21 @@ find-possible-neighbors-spec =
     mul-other
     array-copy-out-other
     offset-of-requires
-    with-neighbor-requires
-    with-neighbor-requires-2
+    is-in-line-requires
+    mul-hs
+    array-set-from-hs
+    add-h
     add-i-2
     loop-less-2
     loop-again-2
+    is-in-line-requires-2
+    add-i-3
+    loop-less-3
+    loop-again-3
+    mul-vs
+    array-set-from-vs
+    add-v
+    add-i-4
+    loop-less-4
+    loop-again-4
     returns)
