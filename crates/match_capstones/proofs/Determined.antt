@@ -18,4 +18,6 @@ meaning-only (Refused x) (Pairs n) e = let z : _≡_ {A = ℕ} 0 1 = cc in absur
 meaning-only (Refused x) (Refused y) e = ap Refused (number-only (cc))
 
 pub told-once : {finding : Finding (List Pair)} {a b : Ranked} → Tells finding a → Tells finding b → a ≡ b
-told-once {finding} {a} {b} v w = ap₂ (λ (p : List Pair) (r : Ranking). record { pairs = p; answer = r }) (v .pairs ∙ sym (w .pairs)) (meaning-only (a .answer) (b .answer) (v .answer ∙ sym (w .answer)))
+told-once {finding} {a} {b} v w =
+    ap₂ (λ (p : List Pair) (r : Ranking). record { pairs = p; answer = r }) (v .pairs ∙ sym (w .pairs))
+    (meaning-only (a .answer) (b .answer) (v .answer ∙ sym (w .answer)))

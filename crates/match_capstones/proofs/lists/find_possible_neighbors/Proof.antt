@@ -47,8 +47,11 @@ loop-again c =
     let s = c .before .before .before .before .before in
     let l = c .before .before .loop in
     let room : length (s .args .t1) ≡ 64 = search needs in
-    let low : l .i < length (s .args .t1) = omega arith in
-    (omega arith, passed-itself (λ p. p .u) (λ p. p .v) (sight s) (s .args .idx) (s .args .t1) (l .i) low (l .inv .1) (c .if1 .taken), passed-itself (λ p. p .v) (λ p. p .u) (sight s) (s .args .idx) (s .args .t1) (l .i) low (l .inv .2) (c .if1 .taken))
+    let low : l .i < length (s .args .t1) = omega arith in (
+      omega arith,
+      passed-itself (λ p. p .u) (λ p. p .v) (sight s) (s .args .idx) (s .args .t1) (l .i) low (l .inv .1) (c .if1 .taken),
+      passed-itself (λ p. p .v) (λ p. p .u) (sight s) (s .args .idx) (s .args .t1) (l .i) low (l .inv .2) (c .if1 .taken),
+    )
 
 mul-other : tie.Need-mul-other Inv-loop μ-loop
 mul-other c = search needs
@@ -95,7 +98,11 @@ loop-again-2 c =
     let other = c .before .before .before .before .if1 .left in
     let seen = c .before .before .offset-of .ensures in
     let along-v = sym (c .before .is-in-line .ensures) ∙ c .if2 .taken in
-    (omega arith, passed-in (λ p. p .u) (λ p. p .v) (sight s) (s .args .idx) (s .args .t1) (l .i) low (l .inv .1) other seen along-v (omega arith), passed-out (λ p. p .v) (λ p. p .u) (sight s) (s .args .idx) (s .args .t1) (l .i) low (l .inv .2) other seen (seen-once (sight s) (getD (s .args .t1) (l .i) noStone .center) seen along-v))
+    let not-along-u = seen-once (sight s) (getD (s .args .t1) (l .i) noStone .center) seen along-v in (
+      omega arith,
+      passed-in (λ p. p .u) (λ p. p .v) (sight s) (s .args .idx) (s .args .t1) (l .i) low (l .inv .1) other seen along-v (omega arith),
+      passed-out (λ p. p .v) (λ p. p .u) (sight s) (s .args .idx) (s .args .t1) (l .i) low (l .inv .2) other seen not-along-u,
+    )
 
 is-in-line-requires-2 : tie.Need-is-in-line-requires-2 Inv-loop μ-loop
 is-in-line-requires-2 c κs = search needs
@@ -115,8 +122,11 @@ loop-again-3 c =
     let other = c .before .before .before .before .before .before .if1 .left in
     let seen = c .before .before .before .before .offset-of .ensures in
     let not-along-v = sym (c .before .before .before .is-in-line .ensures) ∙ c .before .before .if2 .left in
-    let not-along-u = sym (c .before .is-in-line2 .ensures) ∙ not-true _ (c .if3 .taken) in
-    (omega arith, passed-out (λ p. p .u) (λ p. p .v) (sight s) (s .args .idx) (s .args .t1) (l .i) low (l .inv .1) other seen not-along-v, passed-out (λ p. p .v) (λ p. p .u) (sight s) (s .args .idx) (s .args .t1) (l .i) low (l .inv .2) other seen not-along-u)
+    let not-along-u = sym (c .before .is-in-line2 .ensures) ∙ not-true _ (c .if3 .taken) in (
+      omega arith,
+      passed-out (λ p. p .u) (λ p. p .v) (sight s) (s .args .idx) (s .args .t1) (l .i) low (l .inv .1) other seen not-along-v,
+      passed-out (λ p. p .v) (λ p. p .u) (sight s) (s .args .idx) (s .args .t1) (l .i) low (l .inv .2) other seen not-along-u,
+    )
 
 mul-vs : tie.Need-mul-vs Inv-loop μ-loop
 mul-vs c =
@@ -151,8 +161,11 @@ loop-again-4 c =
     let other = c .before .before .before .before .before .before .if1 .left in
     let seen = c .before .before .before .before .offset-of .ensures in
     let not-along-v = sym (c .before .before .before .is-in-line .ensures) ∙ c .before .before .if2 .left in
-    let along-u = sym (c .before .is-in-line2 .ensures) ∙ not-false _ (c .if3 .left) in
-    (omega arith, passed-out (λ p. p .u) (λ p. p .v) (sight s) (s .args .idx) (s .args .t1) (l .i) low (l .inv .1) other seen not-along-v, passed-in (λ p. p .v) (λ p. p .u) (sight s) (s .args .idx) (s .args .t1) (l .i) low (l .inv .2) other seen along-u (omega arith))
+    let along-u = sym (c .before .is-in-line2 .ensures) ∙ not-false _ (c .if3 .left) in (
+      omega arith,
+      passed-out (λ p. p .u) (λ p. p .v) (sight s) (s .args .idx) (s .args .t1) (l .i) low (l .inv .1) other seen not-along-v,
+      passed-in (λ p. p .v) (λ p. p .u) (sight s) (s .args .idx) (s .args .t1) (l .i) low (l .inv .2) other seen along-u (omega arith),
+    )
 
 returns : tie.Need-returns Inv-loop μ-loop
 returns c =

@@ -21,7 +21,10 @@ use Rattle.match_capstones.proofs.sets.possible_sets.Tie as tie
 -- those of the neighbours passed of the first list with all of the second, and those of the next one with the neighbours passed of the second
 abbrev Inv-loop : tie.InvT-loop
 Inv-loop hns vns all₀ n₀ i₀ j₀ all n i j =
-    (i ≤ hns .n) × (j ≤ vns .n) × (hns .n ≤ i → j ≡ 0) × Holds 992 all n (made (take i (hns .all)) (take (vns .n) (vns .all)) ++ setsOf (take j (vns .all)) (getD (hns .all) i noNeighbor))
+    (i ≤ hns .n)
+    × (j ≤ vns .n)
+    × (hns .n ≤ i → j ≡ 0)
+    × Holds 992 all n (made (take i (hns .all)) (take (vns .n) (vns .all)) ++ setsOf (take j (vns .all)) (getD (hns .all) i noNeighbor))
 
 abbrev μ-loop : tie.MeasureT-loop
 μ-loop hns vns all₀ n₀ i₀ j₀ all n i j = (hns .n - i) * 65 + (vns .n - j)
@@ -79,7 +82,12 @@ loop-again-2 c =
     let hn = getD (s .args .t1 .all) (l .i) noNeighbor in
     let vn = getD (s .args .t2 .all) (l .j) noNeighbor in
     let drops : viable (setOf hn vn .score) ≡ false = ap viable (sym (c .before .before .score-of .ensures)) ∙ sym (c .before .is-viable .ensures) ∙ not-true _ (c .if2 .taken) in
-    (omega arith, omega arith, (λ high. absurd (omega arith)), holds-nothing (oneSet hn) (made (take (l .i) (s .args .t1 .all)) (second s)) (s .args .t2 .all) (l .j) noNeighbor (l .inv .3) (omega arith) (rw drops))
+    let ahead = made (take (l .i) (s .args .t1 .all)) (second s) in (
+      omega arith,
+      omega arith,
+      (λ high. absurd (omega arith)),
+      holds-nothing (oneSet hn) ahead (s .args .t2 .all) (l .j) noNeighbor (l .inv .3) (omega arith) (rw drops),
+    )
 
 -- a set that is kept has a place
 fits : (c : tie.Else2 Inv-loop μ-loop) → c .before .before .before .before .before .before .before .loop .n < 992
