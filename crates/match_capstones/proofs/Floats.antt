@@ -1,4 +1,4 @@
--- A float without its sign, by comparisons with 0 alone; and a float that differs from itself. Assumes nothing.
+-- A float without its sign, by comparisons with 0 alone; a float that differs from itself; and two tests at once. Assumes nothing.
 use Prim.Native.Nat.{ℕ, zero, suc, _+_, _*_, _^_}
 use native.Mathlib.Nat.{mul-one, one-mul, mul-pos, zero-lt-suc, pow-suc}
 use native.Mathlib.Omega.{arith}

@@ -1,4 +1,4 @@
--- Lists made one element at a time: what one stone more adds, and that a list of neighbours is no longer than the list of stones. Assumes nothing.
+-- Lists made one element at a time: what the next element adds, to the list and to an array that holds it, and how long the list is. Assumes nothing.
 use Prim.Native.Nat.{ℕ, suc, _+_, _*_, _≤_, _<_}
 use native.Mathlib.Nat.{add-zero, zero-add, suc-add, add-suc, suc-mul}
 use native.Mathlib.Numerals.{add-one}
