@@ -1,8 +1,8 @@
 -- At a cut both lookups can be made, one after the other, and what they answer can be compared. Assumes nothing.
 use Prim.Native.Nat.{ℕ, _+_, _*_, _<_, _≤_}
 use native.Mathlib.Omega.{arith}
-use mathlib.Core.Path.{_≡_, sym, _∙_}
-use mathlib.Core.Bool.{true, not}
+use mathlib.Core.Path.{_≡_, refl, sym, _∙_, subst}
+use mathlib.Core.Bool.{Bool, true, not}
 use mathlib.Core.List.{List}
 use lib.Dec.{eqb}
 use lib.ListN.{length}
@@ -17,7 +17,9 @@ use Rattle.regions.specs.Lookup.{Answered, Looks}
 use Rattle.regions.specs.declared.Region.{Region}
 use Rattle.scanner.specs.declared.LinePosition.{LinePosition}
 use Rattle.marks.specs.InWork.{InWork, AtCut}
-use Rattle.marks.specs.Ring.{Countable}
+use Rattle.marks.specs.Ring.{Countable, Tests}
+use Rattle.marks.specs.Stone.{Ringed}
+use Rattle.marks.proofs.Plain.{look-plain, claim-answers, ring-unclaimed}
 use Rattle.marks.proofs.Work.{Goes, goes-on, can-look, look-goes, look-counted}
 
 -- a pixel that is dark is not white
@@ -68,3 +70,23 @@ module _ {p : List ℕ} {w h lent : ℕ} {T : Table} {y : ℕ} {cut : LinePositi
 
       pub stone-countable : Countable g
       stone-countable r e = look-counted (ring-goes .work) on-stone (C .in-y) stone-still (stone .2) r (only-found (sym (stone .1) ∙ e))
+
+-- a ring test by what its verdict is
+pub tests-as : {p : List ℕ} {w h y : ℕ} {cut : LinePosition} {T : Table} {verdict is : Bool} {q : List ℕ} {U : Table} → verdict ≡ is → Tests p w h y cut T verdict q U → Tests p w h y cut T is q U
+tests-as {p} {w} {h} {y} {cut} {T} {q = q} {U = U} e X = subst (λ (v : Bool). Tests p w h y cut T v q U) e X
+
+-- the ring test keeps the picture in work, and leaves a ring that passes free to fill
+module _ {p : List ℕ} {w h lent : ℕ} {T : Table} {y : ℕ} {cut : LinePosition} (C : AtCut p w h lent T y cut) {room : ℕ} (more : lent ≤ room) where
+  pub tests-go : {verdict : Bool} {q : List ℕ} {U : Table} → Tests p w h y cut T verdict q U → Goes p w h q room U
+  tests-go X = both-go C more (X .ring, refl, X .ring-first) (omega arith) (X .stone, refl, X .stone-then)
+
+  pub tests-ringed : {q : List ℕ} {U : Table} → Tests p w h y cut T true q U → Ringed q w h room (cut .right) y
+  tests-ringed {q} X =
+      let G = tests-go X in
+      let r = ring-unclaimed (X .ring) (X .stone) (eqb (px q w (cut .left) y) (px q w (cut .right) y)) (X .is) in
+      record {
+        seeded = record { sized = G .work .roomy .sized; room = G .work .roomy .room; in-x = on-right C; in-y = C .in-y };
+        dark = λ z. right-shows C (G .white _ _ (on-right C) (C .in-y) .0 z);
+        unclaimed = λ low high.
+            claim-answers (X .ring-first) (look-plain (on-right C) (C .in-y) (X .ring-first) (look-plain (on-right C) (C .in-y) (X .stone-then) (low, high))) (r .0) (r .1);
+      }

@@ -4,3 +4,5 @@ pub mod Work
 pub mod Cut
 pub mod Fills
 pub mod Reach
+pub mod Array
+pub mod Searching

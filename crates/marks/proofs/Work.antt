@@ -18,20 +18,24 @@ use Rattle.regions.specs.declared.Region.{Region}
 use Rattle.demand.specs.Run.{Event}
 use Rattle.demand.proofs.Kept.{Kept}
 use Rattle.demand.proofs.Next.{look-keeps}
+use Rattle.scanner.specs.Edges.{dark}
+use Rattle.scanner.proofs.Painted.{dark-alike}
 use Rattle.marks.specs.InWork.{InWork}
 use Rattle.marks.specs.Ring.{Counted}
 use Rattle.marks.proofs.Plain.{claim-answers}
 use Rattle.marks.proofs.Sizes.{some-pixels, few-pixels}
 
--- q is in work as p was, and is white in the same places
+-- q is in work as p was, and is white in the same places, pixel by pixel and along a line
 pub record Goes (p : List ℕ) (w h : ℕ) (q : List ℕ) (lent : ℕ) (U : Table) : Type 0 where
   pub work : InWork q w h lent U
   pub white : (a b : ℕ) → a < w → b < h → (px q w a b ≡ 0) ↔ (px p w a b ≡ 0)
+  pub alike : (base x : ℕ) → dark p base x ≡ dark q base x
 
 -- what keeps the bitmap's calls in order keeps the picture in work
 pub goes : {p : List ℕ} {w h lent : ℕ} {T : Table} (W : InWork p w h lent T) {q : List ℕ} {U : Table} {room : ℕ} {E : List Event} → lent ≤ room → Kept (W .bitmap) w h E q U → Goes p w h q room U
 goes {p} {w} {h} {lent} W {q} {U} {room} {E} more K =
     let S = W .roomy .sized in
+    let size : length (W .bitmap) ≡ w * h = sym (W .kept .paint .len) ∙ S .whole in
     let len : length q ≡ length p = K .paint .len ∙ sym (W .kept .paint .len) in
     record {
       work =
@@ -45,6 +49,7 @@ goes {p} {w} {h} {lent} W {q} {U} {room} {E} more K =
         (λ e. W .kept .paint .white a b ha hb .1 (K .paint .white a b ha hb .0 e)),
         (λ e. K .paint .white a b ha hb .1 (W .kept .paint .white a b ha hb .0 e)),
       );
+      alike = λ base x. sym (dark-alike (W .bitmap) w h p size (S .some-width) (W .kept .paint) base x) ∙ dark-alike (W .bitmap) w h q size (S .some-width) (K .paint) base x;
     }
 
 -- one after the other
@@ -53,7 +58,12 @@ goes-on G H =
     record {
       work = H .work;
       white = λ a b ha hb. ((λ e. G .white a b ha hb .0 (H .white a b ha hb .0 e)), (λ e. H .white a b ha hb .1 (G .white a b ha hb .1 e)));
+      alike = λ base x. G .alike base x ∙ H .alike base x;
     }
+
+-- with no call at all, whatever more is lent
+pub goes-still : {p : List ℕ} {w h lent : ℕ} {T : Table} → InWork p w h lent T → {room : ℕ} → lent ≤ room → Goes p w h p room T
+goes-still W more = goes W more (W .kept)
 
 module _ {p : List ℕ} {w h lent : ℕ} {T : Table} (W : InWork p w h lent T) {x y : ℕ} (hx : x < w) (hy : y < h) (dark : px p w x y ≡ 0 → ⊥) where
   pub can-look : Lookable p w h lent T x y

@@ -1,3 +1,4 @@
 pub mod InWork
 pub mod Ring
 pub mod Stone
+pub mod Search

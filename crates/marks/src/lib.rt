@@ -1,8 +1,11 @@
 // Marks: the finder patterns of a picture, found line by line (detect.rs).
 mod ring;
+mod search;
 mod stone;
 
 pub use ring::Tested;
 pub use ring::is_capstone;
+pub use search::Marks;
+pub use search::capstones_from_image;
 pub use stone::Mark;
 pub use stone::create_capstone;

@@ -1,0 +1,98 @@
+-- `capstones_from_image` goes from line to line, until the picture ends or a line is refused. Assumes nothing.
+use native.Mathlib.Omega.{arith}
+use Prim.Native.Nat.{_+_, _-_, _≤_}
+use mathlib.Core.Path.{_≡_, refl, sym, _∙_}
+use lib.ListN.{length}
+use borrow.Author.Tests.{not-true, not-false}
+use borrow.Author.Needs.{needs}
+use Rattle.marks.specs.InWork.{InWork}
+use Rattle.marks.proofs.Searching.{Down, goes-found, stops-refused, down-begun, down-ends, down-stops, down-next}
+use Rattle.marks.proofs.search.capstones_from_image.Statement.{statement}
+use Rattle.marks.proofs.search.capstones_from_image.Tie as tie
+
+abbrev Inv-loop : tie.InvT-loop
+Inv-loop pic₀ width height stack₀ marks₀ y₀ pic stack marks y =
+    Down pic₀ width height (marks₀ .table) pic (length stack) y marks × (length pic ≡ length pic₀) × (length stack ≡ length stack₀)
+
+abbrev μ-loop : tie.MeasureT-loop
+μ-loop pic₀ width height stack₀ marks₀ y₀ pic stack marks y = height - y
+
+no-marks-requires : tie.Need-no-marks-requires Inv-loop μ-loop
+no-marks-requires c κs = search needs
+
+loop-holds : tie.Need-loop-holds Inv-loop μ-loop
+loop-holds c =
+    let start = c .before .before .before in
+    let none = c .no-marks .ensures in
+    (down-begun (rw (none .2) (start .pre)) (none .0) (none .1), refl, refl)
+
+search-line-requires : tie.Need-search-line-requires Inv-loop μ-loop
+search-line-requires c κs = let D = c .before .before .before .loop .inv .0 in (D .goes .work, c .before .before .loop-test .taken, D .laid, D .going)
+
+is-sound-requires : tie.Need-is-sound-requires Inv-loop μ-loop
+is-sound-requires c κs = search needs
+
+same-length : tie.Need-same-length Inv-loop μ-loop
+same-length c = search needs
+
+same-length-2 : tie.Need-same-length-2 Inv-loop μ-loop
+same-length-2 c = search needs
+
+returns : tie.Need-returns Inv-loop μ-loop
+returns c =
+    let line = c .before .before .before .before .before .before in
+    let head = line .before .before .before in
+    let r = stops-refused (line .search-line .result) (sym (c .before .is-sound .ensures) ∙ not-true _ (c .if1 .taken)) in
+    let none = head .before .before .no-marks .ensures in (
+      rw (none .2) at (down-stops (head .before .loop .inv .0) (head .loop-test .taken) (line .search-line .result) (line .search-line .ensures .0) (r .0) (r .1)),
+      line .search-line .ensures .1,
+    )
+
+add-y : tie.Need-add-y Inv-loop μ-loop
+add-y c = search needs
+
+loop-less : tie.Need-loop-less Inv-loop μ-loop
+loop-less c = omega arith
+
+loop-again : tie.Need-loop-again Inv-loop μ-loop
+loop-again c =
+    let line = c .before .before .before .before .before .before in
+    let head = line .before .before .before in
+    let D = head .before .loop .inv in
+    let e = goes-found (line .search-line .result) (sym (c .before .is-sound .ensures) ∙ not-false _ (c .if1 .left)) in (
+      down-next (D .0) (head .loop-test .taken) (line .search-line .result) (line .search-line .ensures .0) (omega (arith, line .search-line .kept .1 .1 .1 .0)) (line .search-line .ensures .1) e,
+      omega (arith, D .1, line .search-line .kept .0),
+      omega (arith, D .2, line .search-line .kept .1 .1 .1 .0),
+    )
+
+same-length-3 : tie.Need-same-length-3 Inv-loop μ-loop
+same-length-3 c = search needs
+
+same-length-4 : tie.Need-same-length-4 Inv-loop μ-loop
+same-length-4 c = search needs
+
+returns-2 : tie.Need-returns-2 Inv-loop μ-loop
+returns-2 c =
+    let D = c .before .loop .inv .0 in
+    let none = c .before .before .no-marks .ensures in
+    (rw (none .2) at (down-ends D (c .loop-test .left)), D .laid)
+
+pub capstones-from-image-spec : {M : Type 1} → statement M
+capstones-from-image-spec =
+    tie.close
+    (tie.spec
+    Inv-loop
+    μ-loop
+    no-marks-requires
+    loop-holds
+    search-line-requires
+    is-sound-requires
+    same-length
+    same-length-2
+    returns
+    add-y
+    loop-less
+    loop-again
+    same-length-3
+    same-length-4
+    returns-2)

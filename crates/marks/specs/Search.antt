@@ -1,0 +1,96 @@
+-- The search for marks, cut by cut: document 01, "Marks". Definitions alone.
+use Prim.Native.Nat.{ℕ, zero, suc, _-_, _*_, _≤_, _<_}
+use mathlib.Core.Path.{_≡_}
+use mathlib.Core.Bool.{Bool, true, false}
+use mathlib.Core.List.{List, [], _∷_, _++_, map}
+use lib.ListN.{length, take, replicate}
+use Rattle.refusals.specs.Limits.{mostStones}
+use Rattle.refusals.specs.Finding.{Finding, found, refused, refusedBy}
+use Rattle.picture.specs.declared.Verdict.{Verdict}
+use Rattle.picture.specs.declared.Verdict.the-variants.{Sound, Refused}
+use Rattle.table.specs.declared.Table.{Table}
+use Rattle.scanner.specs.Cuts.{lineCuts}
+use Rattle.scanner.specs.declared.LinePosition.{LinePosition}
+use Rattle.capstones.specs.Blank.{noStone}
+use Rattle.capstones.specs.declared.CapStone.{CapStone}
+use Rattle.marks.specs.Ring.{Tests}
+use Rattle.marks.specs.Stone.{Creates}
+use Rattle.marks.specs.declared.search.Marks.{Marks}
+
+-- a cut of line y is tried, after n stones: where its ring test passes, its stone is made
+pub data Tries (p : List ℕ) (w h y : ℕ) (cut : LinePosition) (T : Table) (n : ℕ) (f : Finding (List CapStone)) (q : List ℕ) (U : Table) : Type 0 where
+  no-ring : Tests p w h y cut T false q U → f ≡ found [] → Tries p w h y cut T n f q U
+  ring : (m : List ℕ) → Tests p w h y cut T true m U → Creates m w h (cut .right) y n f q → Tries p w h y cut T n f q U
+
+-- a cut, and the line that it is on
+pub record Place : Type 0 where
+  pub line : ℕ
+  pub cut : LinePosition
+
+abbrev pub placesOn : ℕ → List LinePosition → List Place
+placesOn y cuts = map (λ (cut : LinePosition). record { line = y; cut = cut }) cuts
+
+-- the cuts of n lines from line y on, from top to bottom, and on each line from left to right
+unfoldable pub cutsFrom : List ℕ → ℕ → ℕ → ℕ → List Place
+cutsFrom p w zero y = []
+cutsFrom p w (suc n) y = placesOn y (lineCuts p (y * w) w) ++ cutsFrom p w n (suc y)
+
+-- all cuts of a picture
+abbrev pub allCuts : List ℕ → ℕ → ℕ → List Place
+allCuts p w h = cutsFrom p w h 0
+
+-- cuts are tried one after the other, with the stones l found before; the first refusal ends it
+pub data Searches (w h : ℕ) : List Place → List ℕ → Table → List CapStone → Finding (List CapStone) → List ℕ → Table → Type 0 where
+  finished : {p : List ℕ} {T : Table} {l : List CapStone} → Searches w h [] p T l (found l) p T
+  tried : {at : Place} {more : List Place} {p : List ℕ} {T : Table} {l new : List CapStone} {m : List ℕ} {Between : Table} {f : Finding (List CapStone)} {q : List ℕ} {U : Table}
+      → Tries p w h (at .line) (at .cut) T (length l) (found new) m Between → Searches w h more m Between (l ++ new) f q U → Searches w h (at ∷ more) p T l f q U
+  stopped : {at : Place} {more : List Place} {p : List ℕ} {T : Table} {l : List CapStone} {n : ℕ} {q : List ℕ} {U : Table}
+      → Tries p w h (at .line) (at .cut) T (length l) (refused n) q U → Searches w h (at ∷ more) p T l (refused n) q U
+
+-- the stones that stand in an array
+abbrev pub stonesOf : Marks → List CapStone
+stonesOf s = take (s .n) (s .stones)
+
+-- what a verdict makes of stones: they are found, or there is a refusal and nothing else
+unfoldable pub told : Verdict → List CapStone → Finding (List CapStone)
+told Sound l = found l
+told (Refused why) l = refusedBy why
+
+-- whether nothing is refused
+unfoldable pub goes : Verdict → Bool
+goes Sound = true
+goes (Refused why) = false
+
+abbrev pub outcome : Marks → Finding (List CapStone)
+outcome s = told (s .verdict) (stonesOf s)
+
+-- how an outcome is laid out: the stones and blanks past them, or blanks alone
+unfoldable pub laidOut : Finding (List CapStone) → List CapStone
+laidOut (found l) = l ++ replicate (mostStones - length l) noStone
+laidOut (refused n) = replicate mostStones noStone
+
+unfoldable pub countIn : Finding (List CapStone) → ℕ
+countIn (found l) = length l
+countIn (refused n) = 0
+
+-- an array of 64 and a count are laid out so
+pub record Laid (s : Marks) : Type 0 where
+  pub few : s .n ≤ mostStones
+  pub count : s .n ≡ countIn (outcome s)
+  pub stones : s .stones ≡ laidOut (outcome s)
+
+-- stones, and what one cut more adds
+unfoldable pub added : List CapStone → Finding (List CapStone) → Finding (List CapStone)
+added l (found new) = found (l ++ new)
+added l (refused n) = refused n
+
+-- a stone that a cut adds after n others has room
+abbrev pub Fits : Finding (List CapStone) → ℕ → Type 0
+Fits f n = (stone : CapStone) → f ≡ found (stone ∷ []) → n < mostStones
+
+-- a cut of line y is tried, and what it comes to is taken
+pub record Takes (p : List ℕ) (w h y : ℕ) (cut : LinePosition) (s : Marks) (q : List ℕ) (r : Marks) : Type 0 where
+  pub finding : Finding (List CapStone)
+  pub tries : Tries p w h y cut (s .table) (s .n) finding q (r .table)
+  pub is : outcome r ≡ added (stonesOf s) finding
+  pub laid : Laid r

@@ -1,0 +1,224 @@
+// The search for marks: cut by cut, from top to bottom (detect.rs, `capstones_from_image`).
+use crate::ring::is_capstone;
+use crate::stone::Mark;
+use crate::stone::create_capstone;
+use capstones::CapStone;
+use capstones::blank;
+use picture::Verdict;
+use refusals::Refusal;
+use scanner::Advanced;
+use scanner::LinePosition;
+use scanner::LineScanner;
+use table::Table;
+ghost use mathlib.Core.Path.{_≡_};
+ghost use mathlib.Core.List.{List, [], _∷_, _++_};
+ghost use Prim.Native.Nat.{_*_, _<_};
+ghost use lib.ListN.{length, replicate};
+ghost use Rattle.scanner.specs.Cuts.{lineCuts};
+ghost use Rattle.capstones.specs.Blank.{noStone};
+ghost use Rattle.refusals.specs.Finding.{found, refusedBy};
+ghost use Rattle.capstones.specs.declared.CapStone.{CapStone};
+ghost use Rattle.marks.specs.InWork.{InWork, AtCut};
+ghost use Rattle.marks.specs.Stone.{meaning};
+ghost use Rattle.marks.specs.Search.{Tries, placesOn, allCuts, Searches, stonesOf, goes, outcome, Laid, Fits, added, Takes};
+
+// What a cut comes to, beside the table that trying it leaves.
+pub struct Tried {
+    pub mark: Mark,
+    pub table: Table,
+}
+
+// What a search has found: the stones, which are the first n of the array, or why it refuses. Every other place of the array is blank.
+pub struct Marks {
+    pub stones: [CapStone; 64],
+    pub n: usize,
+    pub table: Table,
+    pub verdict: Verdict,
+}
+
+// Tries a cut of line y, after n stones.
+fn try_cut(
+    pic: &mut [u8],
+    width: usize,
+    height: usize,
+    stack: &mut [u32],
+    table: Table,
+    cut: LinePosition,
+    y: usize,
+    n: usize,
+) -> Tried
+    requires { ⌜ AtCut (now pic) width height (length (now stack)) table y cut ⌝ }
+    ensures { λ r. ⌜ Tries (now (pic .entry)) width height y cut table n (meaning (r .mark)) (now (pic .exit)) (r .table) ⌝ }
+{
+    let tested = is_capstone(pic, width, height, stack, table, cut, y);
+    let after = tested.table;
+    if !tested.ring {
+        return Tried {
+            mark: Mark::Dropped,
+            table: after,
+        };
+    }
+    let mark = create_capstone(pic, width, height, stack, cut.right, y, n);
+    Tried {
+        mark: mark,
+        table: after,
+    }
+}
+
+// The marks with one stone more.
+fn with_stone(marks: Marks, stone: CapStone, table: Table) -> Marks
+    requires { ⌜ Laid marks × (outcome marks ≡ found (stonesOf marks)) × (marks .n < 64) ⌝ }
+    ensures { λ r. ⌜ (outcome r ≡ found (stonesOf marks ++ (stone ∷ []))) × Laid r × (r .table ≡ table) ⌝ }
+{
+    let mut stones = marks.stones;
+    let n = marks.n;
+    stones[n] = stone;
+    Marks {
+        stones: stones,
+        n: n + 1,
+        table: table,
+        verdict: Verdict::Sound,
+    }
+}
+
+// The marks with no stone more.
+fn with_table(marks: Marks, table: Table) -> Marks
+    requires { ⌜ Laid marks × (outcome marks ≡ found (stonesOf marks)) ⌝ }
+    ensures { λ r. ⌜ (outcome r ≡ found (stonesOf marks ++ [])) × Laid r × (r .table ≡ table) ⌝ }
+{
+    let stones = marks.stones;
+    Marks {
+        stones: stones,
+        n: marks.n,
+        table: table,
+        verdict: Verdict::Sound,
+    }
+}
+
+// An array of blank stones.
+fn blanks() -> [CapStone; 64]
+    ensures { λ r. ⌜ r ≡ replicate 64 noStone ⌝ }
+{
+    [blank(); 64]
+}
+
+// No marks, but a refusal.
+fn refused(why: Refusal, table: Table) -> Marks
+    ensures { λ r. ⌜ (outcome r ≡ refusedBy why) × Laid r × (r .table ≡ table) ⌝ }
+{
+    let stones = blanks();
+    Marks {
+        stones: stones,
+        n: 0,
+        table: table,
+        verdict: Verdict::Refused(why),
+    }
+}
+
+// No marks yet.
+fn no_marks(table: Table) -> Marks
+    ensures { λ r. ⌜ (outcome r ≡ found []) × Laid r × (r .table ≡ table) ⌝ }
+{
+    let stones = blanks();
+    Marks {
+        stones: stones,
+        n: 0,
+        table: table,
+        verdict: Verdict::Sound,
+    }
+}
+
+// The marks after a cut: a stone more, none, or a refusal.
+fn taken(marks: Marks, mark: Mark, table: Table) -> Marks
+    requires { ⌜ Laid marks × (outcome marks ≡ found (stonesOf marks)) × Fits (meaning mark) (marks .n) ⌝ }
+    ensures { λ r. ⌜ (outcome r ≡ added (stonesOf marks) (meaning mark)) × Laid r × (r .table ≡ table) ⌝ }
+{
+    match mark {
+        Mark::Stone(stone) => with_stone(marks, stone, table),
+        Mark::Dropped => with_table(marks, table),
+        Mark::Refused(why) => refused(why, table),
+    }
+}
+
+// Tries a cut of line y, and takes what it comes to.
+fn take_cut(
+    pic: &mut [u8],
+    width: usize,
+    height: usize,
+    stack: &mut [u32],
+    marks: Marks,
+    cut: LinePosition,
+    y: usize,
+) -> Marks
+    requires { ⌜ AtCut (now pic) width height (length (now stack)) (marks .table) y cut × Laid marks × (outcome marks ≡ found (stonesOf marks)) ⌝ }
+    ensures { λ r. ⌜ Takes (now (pic .entry)) width height y cut marks (now (pic .exit)) r ⌝ }
+{
+    let table = marks.table;
+    let tried = try_cut(pic, width, height, stack, table, cut, y, marks.n);
+    let mark = tried.mark;
+    let after = tried.table;
+    taken(marks, mark, after)
+}
+
+// Whether nothing is refused so far.
+fn is_sound(verdict: Verdict) -> bool
+    ensures { λ r. ⌜ r ≡ goes verdict ⌝ }
+{
+    match verdict {
+        Verdict::Sound => true,
+        Verdict::Refused(_) => false,
+    }
+}
+
+// Searches line y.
+fn search_line(
+    pic: &mut [u8],
+    width: usize,
+    height: usize,
+    stack: &mut [u32],
+    marks: Marks,
+    y: usize,
+) -> Marks
+    requires { ⌜ InWork (now pic) width height (length (now stack)) (marks .table) × (y < height) × Laid marks × (outcome marks ≡ found (stonesOf marks)) ⌝ }
+    ensures { λ r. ⌜ Searches width height (placesOn y (lineCuts (now (pic .entry)) (y * width) width)) (now (pic .entry)) (marks .table) (stonesOf marks) (outcome r) (now (pic .exit)) (r .table) × Laid r ⌝ }
+{
+    let base = y * width;
+    let mut scan = LineScanner::new();
+    let mut sofar = marks;
+    loop {
+        let step = scan.advance(pic, base, width);
+        let Advanced::Cut(at, next) = step else {
+            return sofar;
+        };
+        sofar = take_cut(pic, width, height, stack, sofar, at, y);
+        let verdict = sofar.verdict;
+        if !is_sound(verdict) {
+            return sofar;
+        }
+        scan = next;
+    }
+}
+
+// Finds all marks of a picture, line by line from the top. The picture keeps the paint, also where the search is refused.
+pub fn capstones_from_image(
+    pic: &mut [u8],
+    width: usize,
+    height: usize,
+    stack: &mut [u32],
+    table: Table,
+) -> Marks
+    requires { ⌜ InWork (now pic) width height (length (now stack)) table ⌝ }
+    ensures { λ r. ⌜ Searches width height (allCuts (now (pic .entry)) width height) (now (pic .entry)) table [] (outcome r) (now (pic .exit)) (r .table) × Laid r ⌝ }
+{
+    let mut marks = no_marks(table);
+    let mut y: usize = 0;
+    while y < height {
+        marks = search_line(pic, width, height, stack, marks, y);
+        let verdict = marks.verdict;
+        if !is_sound(verdict) {
+            return marks;
+        }
+        y += 1;
+    }
+    marks
+}
