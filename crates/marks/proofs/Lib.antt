@@ -6,3 +6,5 @@ pub mod Fills
 pub mod Reach
 pub mod Array
 pub mod Searching
+pub mod Whole
+pub mod Determined

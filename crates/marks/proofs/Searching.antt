@@ -88,7 +88,7 @@ tries-go {lent = lent} C more (ring m X K) =
     goes-on G (rings-go (G .work) (tests-ringed C (omega arith) X) (K .rings) more)
 
 -- a cut's columns stay dark
-still-dark : {p q : List ℕ} {base w : ℕ} {cut : LinePosition} → ((x : ℕ) → dark p base x ≡ dark q base x) → OnDark p base w cut → OnDark q base w cut
+pub still-dark : {p q : List ℕ} {base w : ℕ} {cut : LinePosition} → ((x : ℕ) → dark p base x ≡ dark q base x) → OnDark p base w cut → OnDark q base w cut
 still-dark {cut = cut} alike O =
     record {
       left-first = O .left-first;
