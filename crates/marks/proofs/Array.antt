@@ -1,14 +1,12 @@
 -- How stones stand in their array: found ones first and blanks past them, or blanks alone. Assumes nothing.
 use Prim.Native.Nat.{ℕ, suc, _+_, _-_, _≤_, _<_}
 use native.Mathlib.Omega.{arith}
-use native.Mathlib.Numerals.{add-one}
-use mathlib.Core.Path.{_≡_, refl, sym, ap, _∙_}
-use mathlib.Core.List.{List, [], _∷_, _++_, append-assoc, append-nil}
-use lib.Dec.{lit≤}
-use lib.ListN.{length, set, take, replicate, length-append}
+use mathlib.Core.Path.{_≡_, sym, ap, _∙_}
+use mathlib.Core.List.{List, [], _∷_, _++_, append-assoc}
+use lib.ListN.{length, set, replicate, length-append}
 use lib.Seq.{take-append-seam, set-at}
 use Rattle.refusals.specs.Limits.{mostStones}
-use Rattle.refusals.specs.Finding.{Finding, found, refusedBy}
+use Rattle.refusals.specs.Finding.{found, refusedBy}
 use Rattle.refusals.specs.declared.Refusal.{Refusal}
 use Rattle.picture.specs.declared.Verdict.the-variants.{Sound, Refused}
 use Rattle.capstones.specs.Blank.{noStone}

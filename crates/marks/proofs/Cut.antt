@@ -1,22 +1,19 @@
 -- At a cut both lookups can be made, one after the other, and what they answer can be compared. Assumes nothing.
-use Prim.Native.Nat.{ℕ, _+_, _*_, _<_, _≤_}
+use Prim.Native.Nat.{ℕ, _<_, _≤_}
 use native.Mathlib.Omega.{arith}
 use mathlib.Core.Path.{_≡_, refl, sym, _∙_, subst}
 use mathlib.Core.Bool.{Bool, true, not}
 use mathlib.Core.List.{List}
 use lib.Dec.{eqb}
-use lib.ListN.{length}
 use borrow.Author.Tests.{not-true, eqb-false}
 use Rattle.refusals.specs.Finding.{Finding, found}
-use Rattle.picture.specs.Sides.{Sized}
 use Rattle.pieces.specs.Picture.{px}
 use Rattle.table.specs.declared.Table.{Table}
 use Rattle.regions.specs.Found.{Answer, unclaimed}
 use Rattle.regions.specs.Tests.{Lookable}
 use Rattle.regions.specs.Lookup.{Answered, Looks}
-use Rattle.regions.specs.declared.Region.{Region}
 use Rattle.scanner.specs.declared.LinePosition.{LinePosition}
-use Rattle.marks.specs.InWork.{InWork, AtCut}
+use Rattle.marks.specs.InWork.{AtCut}
 use Rattle.marks.specs.Ring.{Countable, Tests}
 use Rattle.marks.specs.Stone.{Ringed}
 use Rattle.marks.proofs.Plain.{look-plain, claim-answers, ring-unclaimed}

@@ -1,13 +1,12 @@
 -- Determined: two outcomes that the contract of a search allows coincide. Assumes nothing.
-use Prim.Native.Nat.{ℕ, _≤_, _<_}
+use Prim.Native.Nat.{ℕ}
 use native.Mathlib.Omega.{arith}
 use mathlib.Core.Path.{_≡_, refl, sym, ap, _∙_, subst}
-use mathlib.Core.Bool.{Bool, true, false, _&&_}
-use mathlib.Core.List.{List, [], _∷_, _++_}
+use mathlib.Core.Bool.{Bool, _&&_}
+use mathlib.Core.List.{List, [], _++_}
 use mathlib.Core.Logic.{inl, inr}
 use lib.Dec.{eqb}
-use lib.ListN.{length}
-use Rattle.refusals.specs.Finding.{Finding, found, refused, refusedBy}
+use Rattle.refusals.specs.Finding.{Finding, found}
 use Rattle.refusals.proofs.Distinct.{refusal-only}
 use Rattle.picture.specs.declared.Verdict.{Verdict}
 use Rattle.picture.specs.declared.Verdict.the-variants.{Sound, Refused}
@@ -32,7 +31,6 @@ use Rattle.marks.specs.Ring.{paired, Tests}
 use Rattle.marks.specs.Stone.{stoneOf, firstCorner, Ringed, Rings, Creates}
 use Rattle.marks.specs.Search.{Tries, no-ring, ring, Place, allCuts, Searches, finished, tried, stopped, stonesOf, told, outcome, laidOut, countIn, Laid}
 use Rattle.marks.specs.declared.search.Marks.{Marks}
-use Rattle.marks.proofs.Work.{Goes}
 use Rattle.marks.proofs.Cut.{ring-lookable, stone-lookable, tests-ringed}
 use Rattle.marks.proofs.Searching.{Stands, still-dark, tries-go}
 use Rattle.marks.proofs.Whole.{all-stand}

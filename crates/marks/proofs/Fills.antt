@@ -1,5 +1,5 @@
 -- A ring that is not claimed can be filled with 4, and then with 2; the first fill finds a point of the picture, and both keep the picture in work. Assumes nothing.
-use Prim.Native.Nat.{ℕ, _*_, _<_, _≤_}
+use Prim.Native.Nat.{ℕ, _<_, _≤_}
 use native.Mathlib.Omega.{arith}
 use mathlib.Core.Path.{_≡_, refl, _∙_}
 use mathlib.Core.List.{List}
@@ -8,14 +8,13 @@ use Rattle.points.specs.Range.{Within}
 use Rattle.pieces.specs.Picture.{px}
 use Rattle.pieces.specs.Chain.{start}
 use Rattle.pieces.specs.Paint.{Paints}
-use Rattle.fill.specs.Fill.{Fillable, Sized}
+use Rattle.fill.specs.Fill.{Fillable}
 use Rattle.fill.proofs.Filling.{can-fill}
 use Rattle.corners.specs.Rows.{Sides, pointAt}
 use Rattle.corners.proofs.Small.{point-within}
 use Rattle.corners.proofs.Farthest.{first-corner-farthest, highest-within}
 use Rattle.regions.proofs.Asks.{can-paint}
 use Rattle.fill.proofs.Laws.{pixels-counted}
-use Rattle.fill.specs.declared.paint.Counts.{Counts}
 use Rattle.refusals.specs.Finding.{found}
 use Rattle.table.specs.declared.Table.{Table}
 use Rattle.corners.specs.declared.all_corners.AllCornerFinder.{AllCornerFinder}

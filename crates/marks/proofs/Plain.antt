@@ -1,10 +1,9 @@
 -- Lookups claim nothing: a byte from 2 to 4 that stands after one stood before it. So a ring that was answered unclaimed is not claimed after both lookups. Assumes nothing.
-use Prim.Native.Nat.{ℕ, _+_, _<_, _≤_}
+use Prim.Native.Nat.{ℕ, _<_, _≤_}
 use native.Mathlib.Omega.{arith}
-use mathlib.Core.Path.{_≡_, refl, sym, ap, _∙_, subst}
+use mathlib.Core.Path.{_≡_, refl, subst}
 use mathlib.Core.Bool.{Bool, true, false, _&&_}
 use mathlib.Core.List.{List}
-use lib.Dec.{eqb}
 use Rattle.refusals.specs.Finding.{found}
 use Rattle.pieces.specs.Picture.{px}
 use Rattle.pieces.specs.Paint.{Paints}

@@ -1,10 +1,10 @@
 -- A search keeps the picture in work, and goes on from cut to cut and from line to line. Assumes nothing.
-use Prim.Native.Nat.{ℕ, zero, suc, _+_, _-_, _*_, _≤_, _<_}
+use Prim.Native.Nat.{ℕ, suc, _+_, _-_, _*_, _≤_, _<_}
 use native.Mathlib.Numerals.{add-one}
 use native.Mathlib.Omega.{arith}
 use mathlib.Core.Path.{_≡_, refl, sym, ap, _∙_, subst}
 use mathlib.Core.Bool.{Bool, true, false, not, cond, _&&_}
-use mathlib.Core.List.{List, [], _∷_, _++_, map, append-assoc}
+use mathlib.Core.List.{List, [], _∷_, _++_}
 use mathlib.Core.Logic.{_⊎_, inl, inr, ⊎-elim}
 use lib.Dec.{leb}
 use lib.IntN.{natAbs}
@@ -12,7 +12,6 @@ use lib.ListN.{length}
 use borrow.Author.Tests.{leb-false}
 use Rattle.refusals.specs.Limits.{farthest, mostStones}
 use Rattle.refusals.specs.Finding.{Finding, found, refused, refusedBy}
-use Rattle.refusals.specs.declared.Refusal.{Refusal}
 use Rattle.refusals.specs.declared.Refusal.the-variants as refusal
 use Rattle.picture.specs.declared.Verdict.{Verdict}
 use Rattle.picture.specs.declared.Verdict.the-variants.{Sound, Refused}

@@ -5,10 +5,8 @@ use mathlib.Core.Path.{_≡_, sym, _∙_}
 use mathlib.Core.List.{List}
 use mathlib.Core.Logic.{_↔_, ⊎-elim}
 use lib.ListN.{length}
-use Rattle.picture.specs.Sides.{Sized}
 use Rattle.pieces.specs.Picture.{px}
 use Rattle.pieces.specs.Piece.{Dark}
-use Rattle.pieces.proofs.Bitmap.{Coloured}
 use Rattle.table.specs.declared.Table.{Table}
 use Rattle.table.proofs.Exact.{sound-exact}
 use Rattle.regions.specs.Found.{Answer, unclaimed}

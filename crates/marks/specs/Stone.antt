@@ -1,4 +1,4 @@
--- A mark's stone: document 01, "Marks"; the order of the corners is taken from the Rust, that of the refusals from document 01 (docs/DECISIONS.md, 5). Definitions alone.
+-- A mark's stone: document 01, "Marks"; the order of the corners is taken from the Rust, and the refusals come as 13, 12, 11. Definitions alone.
 use Prim.Native.Nat.{ℕ, _≤_}
 use mathlib.Core.Path.{_≡_}
 use mathlib.Core.Bool.{false, not, _&&_}

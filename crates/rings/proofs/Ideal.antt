@@ -1,8 +1,8 @@
 -- An ideal mark passes the ratio test: ISO/IEC 18004 draws a ring 7 modules wide and 1 thick around a stone of 3 by 3, whatever a module's width. Assumes nothing.
-use Prim.Native.Nat.{ℕ, _-_, _*_, _/_, _<_}
+use Prim.Native.Nat.{ℕ, _-_, _*_, _<_}
 use native.Mathlib.Nat.{mul-pos, mul-div-mul-right}
 use native.Mathlib.Omega.{arith}
-use mathlib.Core.Path.{_≡_, refl}
+use mathlib.Core.Path.{_≡_}
 use mathlib.Core.Bool.{true}
 use Rattle.rings.specs.Ratio.{ratio, ringLike}
 

@@ -1,12 +1,10 @@
 -- `is_capstone` looks the ring up, then the stone, and tests what it finds. Assumes nothing.
 use native.Mathlib.Omega.{arith}
 use Prim.Native.Nat.{_≤_}
-use mathlib.Core.Path.{_≡_, refl, sym, _∙_}
-use mathlib.Core.Bool.{true, false}
+use mathlib.Core.Path.{sym, _∙_}
 use lib.ListN.{length}
 use borrow.Author.Tests.{not-true, not-false}
 use borrow.Author.Needs.{needs}
-use Rattle.marks.specs.Ring.{paired}
 use Rattle.marks.proofs.Cut.{on-right, on-left, ring-lookable, stone-lookable, ring-countable, stone-countable, both-go}
 use Rattle.marks.proofs.ring.is_capstone.Statement.{statement}
 use Rattle.marks.proofs.ring.is_capstone.Tie as tie

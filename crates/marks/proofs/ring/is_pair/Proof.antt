@@ -1,5 +1,5 @@
 -- `is_pair` tests two unclaimed regions, and no others. Assumes nothing.
-use mathlib.Core.Path.{refl, ap}
+use mathlib.Core.Path.{ap}
 use Rattle.regions.specs.Found.{meaning}
 use Rattle.marks.specs.Ring.{paired}
 use borrow.Author.Needs.{needs}

@@ -3,7 +3,6 @@ use Prim.Native.Nat.{_+_, _*_, _<_}
 use native.Mathlib.Omega.{arith}
 use mathlib.Core.Path.{refl}
 use lib.ListN.{length}
-use borrow.Author.Needs.{needs}
 use Rattle.pieces.proofs.Index.{in-picture}
 use Rattle.marks.proofs.ring.is_same.Statement.{statement}
 use Rattle.marks.proofs.ring.is_same.Tie as tie

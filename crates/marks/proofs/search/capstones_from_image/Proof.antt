@@ -1,11 +1,10 @@
 -- `capstones_from_image` goes from line to line, until the picture ends or a line is refused. Assumes nothing.
 use native.Mathlib.Omega.{arith}
-use Prim.Native.Nat.{_+_, _-_, _≤_}
+use Prim.Native.Nat.{_-_}
 use mathlib.Core.Path.{_≡_, refl, sym, _∙_}
 use lib.ListN.{length}
 use borrow.Author.Tests.{not-true, not-false}
 use borrow.Author.Needs.{needs}
-use Rattle.marks.specs.InWork.{InWork}
 use Rattle.marks.proofs.Searching.{Down, goes-found, stops-refused, down-begun, down-ends, down-stops, down-next}
 use Rattle.marks.proofs.search.capstones_from_image.Statement.{statement}
 use Rattle.marks.proofs.search.capstones_from_image.Tie as tie

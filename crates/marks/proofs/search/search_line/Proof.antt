@@ -1,13 +1,12 @@
 -- `search_line` goes from cut to cut, until the line ends or a cut is refused. Assumes nothing.
 use native.Mathlib.Omega.{arith}
-use Prim.Native.Nat.{_+_, _*_, _≤_}
+use Prim.Native.Nat.{_*_}
 use mathlib.Core.Path.{_≡_, refl, sym, _∙_}
 use lib.ListN.{length}
 use borrow.Author.Tests.{not-true, not-false}
 use borrow.Author.Needs.{needs}
 use Rattle.pieces.proofs.Index.{line-fits}
-use Rattle.scanner.specs.Scan.{ahead, Comes}
-use Rattle.scanner.specs.declared.Advanced.{Advanced}
+use Rattle.scanner.specs.Scan.{ahead}
 use Rattle.marks.specs.Search.{stonesOf}
 use Rattle.marks.proofs.Searching.{Along, goes-found, stops-refused, comes, along-begun, along-ends, along-less, along-asks, along-stops, along-next}
 use Rattle.marks.proofs.search.search_line.Statement.{statement}

@@ -1,5 +1,4 @@
 -- `take_cut` tries a cut, and takes what it comes to. Assumes nothing.
-use mathlib.Core.Path.{_≡_, sym}
 use borrow.Author.Needs.{needs}
 use Rattle.marks.proofs.Searching.{tries-fit, takes-of}
 use Rattle.marks.proofs.search.take_cut.Statement.{statement}

@@ -1,5 +1,5 @@
 -- `with_table` keeps the stones. Assumes nothing.
-use mathlib.Core.Path.{refl, sym, _∙_}
+use mathlib.Core.Path.{refl}
 use mathlib.Core.List.{append-nil}
 use Rattle.marks.proofs.Array.{laid-found, going-count, going-stones}
 use Rattle.marks.proofs.search.with_table.Statement.{statement}

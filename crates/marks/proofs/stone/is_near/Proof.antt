@@ -1,5 +1,4 @@
 -- `is_near` compares a coordinate with both ends. Assumes nothing.
-use mathlib.Core.Path.{_≡_, sym, _∙_}
 use mir.Facts.{toZ-ofZ}
 use Rattle.marks.proofs.Reach.{in-reach}
 use Rattle.marks.proofs.stone.is_near.Statement.{statement}

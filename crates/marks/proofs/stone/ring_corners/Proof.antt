@@ -1,10 +1,8 @@
 -- `ring_corners` fills the ring with 4 and then with 2, each with its finder. Assumes nothing.
 use native.Mathlib.Omega.{arith}
 use Prim.Native.Nat.{_≤_}
-use mathlib.Core.Path.{_≡_, refl, sym, ap, _∙_}
 use lib.ListN.{length}
 use borrow.Author.Needs.{needs}
-use Rattle.corners.specs.Finders.{firstCornerFrom}
 use Rattle.corners.proofs.Small.{first-corner-ready, all-corners-ready}
 use Rattle.marks.specs.Stone.{firstCorner}
 use Rattle.marks.proofs.Fills.{ring-sides, fill-four, seed-low, seed-within, corner-within, fill-two}

@@ -1,5 +1,5 @@
 -- `stone_of` makes the perspective of the corners, and goes on unless it is flat. Assumes nothing.
-use mathlib.Core.Path.{_≡_, sym, ap, _∙_}
+use mathlib.Core.Path.{sym, _∙_}
 use lib.Ieee.{ofBits}
 use borrow.Author.Needs.{needs}
 use Rattle.marks.specs.Stone.{seenStone, stoneOf}
