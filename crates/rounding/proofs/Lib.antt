@@ -1,3 +1,3 @@
-mod Doubled
+mod Evened
 mod Cases
 pub mod Only

@@ -13,13 +13,17 @@ pub enum Whole {
     Off,
 }
 
-// The whole number nearest to x, a half upwards, for an x above 0 and below 2^31 + 1/2.
+// The whole number nearest to x, a half upwards, for an x above 0 and below 2^31 + 1/2. From 2^52 on floats are whole numbers: adding that rounds x, a half to the even number, which is then one too low or none.
 fn half_up(x: f64) -> u64
     requires { ⌜ T (lt (fin false 0 (pos 0)) x) ⌝ ∗ ⌜ T (lt x (fin false 4294967297 (negsuc 0))) ⌝ }
     ensures { λ r. ⌜ r ≡ sizeOf x ⌝ }
 {
-    let halves = std::num::truncating_f64_to_u64(x * 2.0);
-    (halves + 1) / 2
+    let even = x + 4503599627370496.0 - 4503599627370496.0;
+    let n = even as u32;
+    if x < even + 0.5 {
+        return n as u64;
+    }
+    n as u64 + 1
 }
 
 // n as an `i32`.
