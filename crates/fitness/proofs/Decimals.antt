@@ -1,7 +1,7 @@
 -- The decimals of the source are the floats nearest to their fractions. Assumes nothing.
 use mathlib.Core.Path.{_≡_, refl}
 use lib.Ieee as Ieee
-use lib.Ieee.{Float, ofBits, binary64}
+use lib.Ieee.{ofBits, binary64}
 use Rattle.fitness.specs.Seen.{ratio}
 
 pub three-tenths : ofBits binary64 0x3fd3333333333333 ≡ ratio 3 10

@@ -1,6 +1,6 @@
 -- Two answers that the contract of `fitness_all` allows coincide. Assumes nothing.
 use Prim.Native.Nat.{ℕ}
-use mathlib.Core.Path.{_≡_, refl, sym, ap, _∙_}
+use mathlib.Core.Path.{_≡_, refl, sym, _∙_}
 use lib.IntN.{ℤ}
 use Rattle.refusals.specs.Finding.{Finding}
 use Rattle.fitness.specs.Fitness.{meaning, Scores}

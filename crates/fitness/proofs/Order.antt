@@ -2,17 +2,17 @@
 use Prim.Native.Nat.{ℕ}
 use mathlib.Core.Path.{_≡_, refl, sym, ap, _∙_}
 use mathlib.Core.List.{List, [], _∷_, _++_}
-use lib.IntN.{ℤ, pos, negsuc, +ℤ-comm}
+use lib.IntN.{ℤ, +ℤ-comm}
 use lib.Ieee.{Float}
 use Rattle.refusals.specs.Finding.{Finding, found, refused}
 use Rattle.points.specs.declared.Point.{Point}
 use Rattle.geometry.specs.Map.{mapped}
 use Rattle.geometry.specs.declared.Perspective.{Perspective}
 use Rattle.geometry.proofs.Placed.{mapped-refused}
-use Rattle.fitness.specs.Expected.{Shade, dark, light, Expected, expected}
+use Rattle.fitness.specs.Expected.{Shade, dark, light, Expected}
 use Rattle.fitness.specs.Score.{_⊞_, opposite, weighed, total}
 use Rattle.fitness.specs.Seen.{darkIn, pointOf, lineOf, cellOf}
-use Rattle.fitness.specs.Fitness.{scoreOf, fitnessOf}
+use Rattle.fitness.specs.Fitness.{scoreOf}
 use Rattle.fitness.proofs.Sums.{total-append}
 
 -- a refusal is 13

@@ -1,7 +1,7 @@
 -- The score of a grid part by part, and of a mark and an alignment pattern ring by ring: a light ring counts as a dark one does, against. Assumes nothing.
 use Prim.Native.Nat.{ℕ, _+_, _-_, _*_}
-use mathlib.Core.Path.{_≡_, sym, ap, _∙_}
-use mathlib.Core.List.{List, _++_}
+use mathlib.Core.Path.{_≡_}
+use mathlib.Core.List.{List}
 use lib.IntN.{ℤ}
 use Rattle.refusals.specs.Finding.{Finding}
 use Rattle.geometry.specs.declared.Perspective.{Perspective}

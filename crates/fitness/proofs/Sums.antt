@@ -5,11 +5,11 @@ use native.Mathlib.Numerals.{add-one}
 use native.Mathlib.Omega.{arith}
 use mathlib.Core.Path.{_≡_, refl, sym, ap, _∙_}
 use mathlib.Core.List.{List, [], _∷_, _++_}
-use lib.IntN.{ℤ, pos, negsuc, negℤ, natAbs, _+ℤ_, +ℤ-idl, +ℤ-idr, +ℤ-assoc, +ℤ-comm, negℤ-+ℤ}
+use lib.IntN.{ℤ, pos, _+ℤ_, +ℤ-idl, +ℤ-idr, +ℤ-assoc, negℤ-+ℤ}
 use Rattle.refusals.specs.Finding.{Finding, found, refused}
 use Rattle.geometry.specs.declared.Perspective.{Perspective}
 use Rattle.sizes.proofs.Size.{size-add, size-neg}
-use Rattle.fitness.specs.Expected.{Shade, dark, light, Expected, cell, each, ring}
+use Rattle.fitness.specs.Expected.{Expected, each}
 use Rattle.fitness.specs.Score.{_⊞_, opposite, weighed, total, extent}
 use Rattle.fitness.specs.Seen.{cellOf}
 use Rattle.fitness.specs.Fitness.{meaning, Scores, scoreOf}
@@ -56,22 +56,10 @@ module _ (seen : ℕ → ℕ → Finding ℤ) where
   total-append [] ys = sym (nothing-plus (total seen ys))
   total-append (e ∷ xs) ys = rw (total-append xs ys) (sym (plus-assoc (weighed (e .shade) (seen (e .col) (e .line))) (total seen xs) (total seen ys)))
 
-  pub total-cons : (e : Expected) (es : List Expected) → total seen (e ∷ es) ≡ weighed (e .shade) (seen (e .col) (e .line)) ⊞ total seen es
-  unfolding total
-  total-cons e es = refl
-
-  pub total-one : (e : Expected) → total seen (e ∷ []) ≡ weighed (e .shade) (seen (e .col) (e .line))
-  unfolding total
-  total-one e = plus-nothing (weighed (e .shade) (seen (e .col) (e .line)))
-
-  -- turn by turn
-  pub each-none : (f : ℕ → List Expected) → total seen (each 0 f) ≡ found (pos 0)
-  unfolding total
-  each-none f = refl
-
   pub each-more : (f : ℕ → List Expected) (n : ℕ) → total seen (each (suc n) f) ≡ total seen (each n f) ⊞ total seen (f n)
   each-more f n = total-append (each n f) (f n)
 
+  -- turns that count against each other make sums that do
   pub each-opposite : (f g : ℕ → List Expected) → ((i : ℕ) → total seen (f i) ≡ opposite (total seen (g i))) → (n : ℕ) → total seen (each n f) ≡ opposite (total seen (each n g))
   unfolding total opposite
   each-opposite f g h zero = refl
@@ -79,8 +67,8 @@ module _ (seen : ℕ → ℕ → Finding ℤ) where
       each-more f n ∙ rw (each-opposite f g h n, h n) (sym (opposite-plus (total seen (each n g)) (total seen (g n)))) ∙ ap opposite (sym (each-more g n))
 
 -- an answer that means a sum
-pub scores-sum : (f g : Finding ℤ) (n : ℕ) (r : Fitness) → extent g ≤ n → meaning r ≡ f ⊞ g → Scores (f ⊞ g) (extent f + n) r
-scores-sum f g n r low e = record { is = e; small = rw e (let h = extent-plus f g in omega arith) }
+pub scores-sum : (f g : Finding ℤ) (r : Fitness) → meaning r ≡ f ⊞ g → Scores (f ⊞ g) (extent f + extent g) r
+scores-sum f g r e = record { is = e; small = rw e (extent-plus f g) }
 
 -- an answer that means an opposite
 pub scores-opposite : (f : Finding ℤ) (r : Fitness) → meaning r ≡ opposite f → Scores (opposite f) (extent f) r
@@ -88,14 +76,11 @@ scores-opposite f r e = record { is = e; small = rw (e, extent-opposite) (le-ref
 
 -- ---- answers that mean the scores of a list's cells
 module _ (pic : List ℕ) (width height : ℕ) (c : Perspective) where
+  -- what a cell adds
   abbrev pub weight : Expected → Finding ℤ
   weight e = weighed (e .shade) (cellOf pic width height c (e .col) (e .line))
 
-  -- the cells of a short list, one by one
-  pub score-one : (e : Expected) → scoreOf pic width height c (e ∷ []) ≡ weight e
-  unfolding scoreOf total
-  score-one e = plus-nothing (weight e)
-
+  -- a short list, cell by cell
   pub score-two : (e f : Expected) → scoreOf pic width height c (e ∷ f ∷ []) ≡ weight e ⊞ weight f
   unfolding scoreOf total
   score-two e f = rw (plus-nothing (weight f))

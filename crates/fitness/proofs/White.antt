@@ -1,5 +1,5 @@
 -- Fitness sees white and not white: two pictures that are white at the same pixels have the same. Assumes nothing.
-use Prim.Native.Nat.{ℕ, _≤_, _<_}
+use Prim.Native.Nat.{ℕ, _<_}
 use mathlib.Core.Path.{_≡_, refl, sym, ap, _∙_}
 use mathlib.Core.List.{List, [], _∷_}
 use mathlib.Core.Logic.{_⊎_, ⊎-elim}
@@ -12,7 +12,7 @@ use Rattle.geometry.specs.declared.Perspective.{Perspective}
 use Rattle.pieces.specs.Picture.{px}
 use Rattle.pieces.proofs.Numbers.{split, same}
 use Rattle.fitness.specs.Expected.{Expected, expected}
-use Rattle.fitness.specs.Score.{_⊞_, total}
+use Rattle.fitness.specs.Score.{total}
 use Rattle.fitness.specs.Seen.{darkAt, darkIn, pointOf, lineOf, cellOf}
 use Rattle.fitness.specs.Fitness.{SameWhite, scoreOf, fitnessOf}
 use Rattle.fitness.proofs.Dark.{dark-behind, dark-below, dark-white, dark-coloured}

@@ -1,6 +1,6 @@
 // The alignment patterns of a version.
 ghost use mathlib.Core.Path.{_≡_};
-ghost use Prim.Native.Nat.{_+_, _*_, _≤_, _<_};
+ghost use Prim.Native.Nat.{_+_, _≤_, _<_};
 ghost use lib.ListN.{length};
 ghost use Rattle.picture.specs.Sides.{Sized};
 ghost use Rattle.version_db.specs.AnnexE.{countOf, positionOf};

@@ -1,5 +1,5 @@
 // The timing lines.
-ghost use Prim.Native.Nat.{_+_, _*_, _≤_, _<_};
+ghost use Prim.Native.Nat.{_+_, _<_};
 ghost use lib.ListN.{length};
 ghost use Rattle.picture.specs.Sides.{Sized};
 ghost use Rattle.fitness.specs.Expected.{crossing, timing};

@@ -1,6 +1,6 @@
 -- Refinement is a function of the scores alone, and so of the perspective at the start, the size, the sides and which pixels are white; and it refuses as a score does. Assumes nothing.
 use Prim.Native.Nat.{ℕ, zero, suc}
-use mathlib.Core.Path.{_≡_, refl, sym, ap, _∙_}
+use mathlib.Core.Path.{_≡_, refl}
 use mathlib.Core.List.{List}
 use lib.IntN.{ℤ}
 use Rattle.refusals.specs.Finding.{Finding, found, refused}
@@ -9,7 +9,7 @@ use Rattle.fitness.specs.Seen.{ratio}
 use Rattle.fitness.specs.Fitness.{SameWhite, fitnessOf}
 use Rattle.fitness.proofs.White.{fitness-white}
 use Rattle.refine.specs.Adjust.{scaled, adjustments, adjusted}
-use Rattle.refine.specs.Refine.{scored, judged, trial, trials, passes, refined, refinedOf}
+use Rattle.refine.specs.Refine.{scored, trial, trials, passes, refined, refinedOf}
 use Rattle.refine.specs.declared.Refined.{Refined}
 
 module _ (f g : Perspective → Finding ℤ) (alike : (c : Perspective) → f c ≡ g c) where

@@ -1,6 +1,5 @@
 // Adjustments: one for each coefficient of a perspective, and so held as one.
 ghost use mathlib.Core.Path.{_≡_};
-ghost use Prim.Native.Nat.{_<_};
 ghost use Rattle.refine.specs.Adjust.{scaled, adjusted};
 use geometry::Perspective;
 

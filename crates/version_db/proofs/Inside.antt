@@ -1,7 +1,7 @@
 -- Each alignment position lies inside its grid, with six modules before it and seven more after, and the last one stands exactly seven from the end. Assumes nothing.
 use Prim.Native.Nat.{ℕ, _+_, _-_, _*_, _/_, _≤_, _<_}
 use native.Mathlib.Omega.{arith}
-use mathlib.Core.Path.{_≡_, refl}
+use mathlib.Core.Path.{_≡_}
 use mathlib.Core.Bool.{Bool, true, false, cond}
 use mathlib.Core.List.{[]}
 use lib.Dec.{T, eqb, ltb, leb, leb→le}

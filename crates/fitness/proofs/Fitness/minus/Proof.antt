@@ -1,6 +1,5 @@
 -- `minus` adds the opposite. Assumes nothing.
 use native.Mathlib.Omega.{arith}
-use Rattle.fitness.specs.Score.{_⊞_}
 use borrow.Author.Needs.{needs}
 use Rattle.fitness.proofs.Fitness.minus.Statement.{statement}
 use Rattle.fitness.proofs.Fitness.minus.Tie as tie

@@ -4,7 +4,6 @@ use mir.Syntax.{w32}
 use mir.Val.{toZ, ofZ}
 use Rattle.sizes.proofs.Size.{read-back}
 use Rattle.fitness.specs.Score.{opposite, extent}
-use Rattle.fitness.specs.Fitness.{meaning}
 use Rattle.fitness.proofs.Sums.{scores-opposite}
 use borrow.Author.Needs.{needs}
 use Rattle.fitness.proofs.Fitness.opposite.Statement.{statement}

@@ -1,5 +1,4 @@
 -- `plus` adds two scores; where one is refused, so are both. Assumes nothing.
-use native.Mathlib.Nat.{le-refl}
 use mathlib.Core.Path.{_≡_}
 use mir.Syntax.{w32}
 use mir.Val.{toZ, ofZ}
@@ -40,7 +39,7 @@ returns c =
     let b = c .before .before .other .given in
     let ea : toZ w32 (ofZ w32 (a .0 .0)) ≡ a .0 .0 = search needs in
     let eb : toZ w32 (ofZ w32 (b .0 .0)) ≡ b .0 .0 = search needs in
-    scores-sum (meaning (s .self)) (meaning (s .other)) (extent (meaning (s .other))) _ (le-refl _)
+    scores-sum (meaning (s .self)) (meaning (s .other)) _
     (rw (a .1, b .1, read-back _ (c .sum .ok), c .sum .ensures, ea, eb))
 
 returns-2 : tie.Need-returns-2
@@ -48,13 +47,13 @@ unfolding _⊞_
 returns-2 c =
     let s = c .before .before .before .before .before .args in
     let a = c .before .before .before .self .given in
-    scores-sum (meaning (s .self)) (meaning (s .other)) (extent (meaning (s .other))) _ (le-refl _) (rw (a .1, c .enum-told .given .1))
+    scores-sum (meaning (s .self)) (meaning (s .other)) _ (rw (a .1, c .enum-told .given .1))
 
 returns-3 : tie.Need-returns-3
 unfolding _⊞_
 returns-3 c =
     let s = c .before .before .args in
-    scores-sum (meaning (s .self)) (meaning (s .other)) (extent (meaning (s .other))) _ (le-refl _) (rw (c .enum-told2 .given .1))
+    scores-sum (meaning (s .self)) (meaning (s .other)) _ (rw (c .enum-told2 .given .1))
 
 pub plus-spec : {M : Type 1} → statement M
 plus-spec =

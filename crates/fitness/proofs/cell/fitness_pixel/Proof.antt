@@ -1,9 +1,8 @@
 -- `fitness_pixel` scores the pixel at a point. Assumes nothing.
-use mathlib.Core.Path.{_≡_, ap, _∙_}
+use mathlib.Core.Path.{_≡_}
 use mir.Syntax.{w32}
 use mir.Val.{toZ, ofZ}
 use Rattle.sizes.proofs.Size.{read-back}
-use Rattle.refusals.specs.Finding.{found}
 use Rattle.fitness.specs.Score.{extent}
 use Rattle.fitness.specs.Seen.{darkIn}
 use borrow.Author.Needs.{needs}

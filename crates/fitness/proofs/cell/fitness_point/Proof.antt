@@ -1,5 +1,4 @@
 -- `fitness_point` goes by the spot that the point is mapped to. Assumes nothing.
-use Prim.Native.Nat.{_≤_}
 use native.Mathlib.Omega.{arith}
 use Rattle.fitness.specs.Score.{extent}
 use Rattle.fitness.specs.Seen.{darkIn, pointOf}
