@@ -5,7 +5,8 @@ use mathlib.Core.List.{List}
 use lib.IntN.{ℤ}
 use Rattle.refusals.specs.Finding.{Finding}
 use Rattle.geometry.specs.declared.Perspective.{Perspective}
-use Rattle.fitness.specs.Expected.{Expected, dark, light, timing, sides, ring, mark, pattern, edges, columns, versionOf, expected}
+use Rattle.version_db.specs.AnnexE.{versionOf}
+use Rattle.fitness.specs.Expected.{Expected, dark, light, timing, sides, ring, mark, pattern, edges, columns, expected}
 use Rattle.fitness.specs.Score.{_⊞_, opposite, total}
 use Rattle.fitness.specs.Seen.{cellOf}
 use Rattle.fitness.specs.Fitness.{scoreOf}

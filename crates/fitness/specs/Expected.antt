@@ -1,9 +1,9 @@
 -- The cells that each symbol of a size shows dark, or light: the timing lines, marks and alignment patterns of ISO/IEC 18004. How often a cell is listed is taken from the Rust, `fitness_all`. Definitions alone.
-use Prim.Native.Nat.{ℕ, zero, suc, _+_, _-_, _*_, _/_, _%_}
+use Prim.Native.Nat.{ℕ, zero, suc, _+_, _-_, _*_, _%_}
 use mathlib.Core.Bool.{cond}
 use mathlib.Core.List.{List, [], _∷_, _++_}
 use lib.Dec.{eqb}
-use Rattle.version_db.specs.AnnexE.{countOf, positionOf}
+use Rattle.version_db.specs.AnnexE.{countOf, versionOf, positionOf}
 
 pub data Shade : Type 0 where
   dark light : Shade
@@ -49,10 +49,6 @@ mark x y = cell dark (x + 3) (y + 3) ∷ (ring dark (x + 3) (y + 3) 1 ++ ring li
 -- an alignment pattern, by its middle: a dark cell, a light ring and a dark ring
 unfoldable pub pattern : ℕ → ℕ → List Expected
 pattern x y = cell dark x y ∷ (ring light x y 1 ++ ring dark x y 2)
-
--- the version of a grid with so many cells along a side
-abbrev pub versionOf : ℕ → ℕ
-versionOf size = (size - 17) / 4
 
 -- the two alignment patterns on the timing lines at a position
 abbrev pub edge : ℕ → List Expected

@@ -8,6 +8,10 @@ use lib.Dec.{eqb, ltb}
 abbrev pub sizeOf : ℕ → ℕ
 sizeOf v = 17 + 4 * v
 
+-- the version of a grid with so many modules along a side; taken from the Rust, `version_from_grid_size`
+abbrev pub versionOf : ℕ → ℕ
+versionOf size = (size - 17) / 4
+
 -- how many positions a version has: version 1 has none, and neither has entry 0, which is no version (document 01)
 abbrev pub countOf : ℕ → ℕ
 countOf v = cond (ltb v 2) 0 (v / 7 + 2)
