@@ -1,4 +1,5 @@
 mod Geometry
 mod Pictures
 mod Marks
+mod Grids
 pub mod Document01

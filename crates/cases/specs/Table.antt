@@ -4,6 +4,7 @@ use Rattle.cases.specs.Case.{Case}
 use Rattle.cases.specs.Geometry.{geometry}
 use Rattle.cases.specs.Pictures.{pictures}
 use Rattle.cases.specs.Marks.{marks}
+use Rattle.cases.specs.Grids.{grids}
 
 unfoldable pub table : List Case
-table = geometry ++ (pictures ++ marks)
+table = geometry ++ (pictures ++ (marks ++ grids))
