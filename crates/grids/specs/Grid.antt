@@ -1,5 +1,5 @@
 -- A located grid: document 01, "Groups and grids"; which corners go where is taken from the Rust. Definitions alone.
-use Prim.Native.Nat.{ℕ, _-_, _/_, _≤_}
+use Prim.Native.Nat.{ℕ, _-_, _≤_}
 use mathlib.Core.Path.{_≡_}
 use mathlib.Core.Bool.{cond}
 use mathlib.Core.List.{List, [], _∷_}
@@ -13,7 +13,7 @@ use Rattle.geometry.specs.Create.{sightOf}
 use Rattle.geometry.specs.declared.Perspective.{Perspective}
 use Rattle.geometry.specs.declared.Sight.{Sight}
 use Rattle.geometry.specs.declared.Sight.the-variants.{Made, Flat}
-use Rattle.version_db.specs.AnnexE.{sizeOf}
+use Rattle.version_db.specs.AnnexE.{sizeOf, versionOf}
 use Rattle.refine.specs.Refine.{refinedOf}
 use Rattle.refine.specs.declared.Refined.{Refined}
 use Rattle.grids.specs.declared.SkewedGridLocation.{SkewedGridLocation}
@@ -31,10 +31,6 @@ pub record Modules (size : ℕ) : Type 0 where
   pub version : ℕ
   pub is : size ≡ sizeOf version
   pub few : version ≤ 10000
-
--- the version that has so many cells along a side
-abbrev pub versionOf : ℕ → ℕ
-versionOf size = (size - 17) / 4
 
 -- the grid with this size and the perspective that refinement arrived at
 unfoldable pub gridOf : ℕ → Finding Refined → Finding (List SkewedGridLocation)

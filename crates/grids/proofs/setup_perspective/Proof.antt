@@ -2,7 +2,8 @@
 use native.Mathlib.Omega.{arith}
 use borrow.Author.Needs.{needs}
 use borrow.Author.Tests.{le-leb, lt-leb}
-use Rattle.grids.specs.Grid.{versionOf, seenGrid, setUp}
+use Rattle.version_db.specs.AnnexE.{versionOf}
+use Rattle.grids.specs.Grid.{seenGrid, setUp}
 use Rattle.grids.proofs.setup_perspective.Statement.{statement}
 use Rattle.grids.proofs.setup_perspective.Tie as tie
 
