@@ -1,0 +1,83 @@
+-- Sides of a line: no step towards them leaves the range of an i32, and in the opposite direction they are opposite. Assumes nothing.
+use Prim.Native.Nat.{_+_, _*_, _^_, _≤_, _<_}
+use native.Mathlib.Nat.{lt-of-le-of-lt}
+use native.Mathlib.Omega.{arith}
+use mathlib.Core.Path.{_≡_, refl}
+use mathlib.Core.List.{[], _∷_}
+use lib.Dec.{lit<}
+use lib.IntN.{ℤ, natAbs, negℤ, _+ℤ_, _-ℤ_, _*ℤ_}
+use Rattle.refusals.specs.Limits.{farthest}
+use Rattle.points.specs.declared.Point.{Point}
+use Rattle.points.specs.Range.{Inside, Within, Near}
+use Rattle.sizes.proofs.Size.{size-sub, size-neg, products}
+use Rattle.sizes.proofs.Algebra.{var, ⊝, _⊕_, _⊖_, _⊗_, same-terms}
+use Rattle.corners.specs.Scores.{Span, Direction, acrossOf, lineFrom}
+use Rattle.corners.proofs.Signed.{back, is-own, is-back}
+use Rattle.groups.specs.Side.{sideOf, reversed}
+
+-- a coordinate that a stated point may have, and a difference of two, as the code reads them
+pub near-back : (a : ℤ) → natAbs a ≤ farthest → back a ≡ a
+near-back a h = is-back (is-own h (lit< tt))
+
+pub span-back : {a : ℤ} → Span a → back a ≡ a
+span-back S = is-back (is-own (S .low) (lit< tt))
+
+-- such numbers are low enough for `diff`, `opposite` and `cross`, as a search looks for it
+pub apart-low : (a b : ℤ) → natAbs a ≤ farthest → natAbs b ≤ farthest → natAbs (back a) + natAbs (back b) < 2 ^ 31
+apart-low a b h k = rw (near-back a h, near-back b k) (omega arith)
+
+pub opposite-low : (a : ℤ) → Span a → natAbs (back a) < 2 ^ 31
+opposite-low a S = rw (span-back S) (let h = S .low in omega arith)
+
+pub cross-low : (a x b y : ℤ) → Span a → Span x → Span b → Span y → natAbs (back a) * natAbs (back x) + natAbs (back b) * natAbs (back y) < 2 ^ 31
+cross-low a x b y A X B Y =
+    rw (span-back A, span-back X, span-back B, span-back Y)
+    (lt-of-le-of-lt (products 20000 20000 20000 20000 (A .low) (X .low) (B .low) (Y .low)) (lit< tt))
+
+-- a pixel of a picture is no further out than a stated point may be
+pub within-near : {p : Point} → Within p → Near p
+within-near {p} P = record { x-low = low (P .x); y-low = low (P .y) }
+  where
+    low : {z : ℤ} → Inside z → natAbs z ≤ farthest
+    low I = let h = I .low in rw (I .is) (omega arith)
+
+-- the way between two such points is a direction, and so is the way back
+pub way-direction : {p q : Point} → Near p → Near q → Direction (lineFrom p q)
+unfolding lineFrom
+way-direction {p} {q} P Q =
+    let x = size-sub (q .x) (p .x) in
+    let y = size-sub (q .y) (p .y) in
+    record { x = record { low = omega (arith, P .x-low, Q .x-low) }; y = record { low = omega (arith, P .y-low, Q .y-low) } }
+
+pub reversed-direction : {d : Point} → Direction d → Direction (reversed d)
+unfolding reversed
+reversed-direction {d} D =
+    let x = size-neg (d .x) in
+    let y = size-neg (d .y) in
+    record { x = record { low = omega (arith, D .x .low) }; y = record { low = omega (arith, D .y .low) } }
+
+module _ (h0 hd p : Point) where
+  -- the Rust's own formula
+  pub side-is : sideOf h0 hd p ≡ (p .x -ℤ h0 .x) *ℤ negℤ (hd .y) +ℤ (p .y -ℤ h0 .y) *ℤ hd .x
+  unfolding sideOf acrossOf lineFrom
+  side-is =
+      let px = var 0 in
+      let py = var 1 in
+      let hx = var 2 in
+      let hy = var 3 in
+      let dx = var 4 in
+      let dy = var 5 in
+      same-terms (p .x ∷ p .y ∷ h0 .x ∷ h0 .y ∷ hd .x ∷ hd .y ∷ [])
+      ((py ⊖ hy) ⊗ dx ⊖ (px ⊖ hx) ⊗ dy) ((px ⊖ hx) ⊗ ⊝ dy ⊕ (py ⊖ hy) ⊗ dx) refl
+
+  pub side-reversed : sideOf h0 (reversed hd) p ≡ negℤ (sideOf h0 hd p)
+  unfolding sideOf acrossOf lineFrom reversed
+  side-reversed =
+      let px = var 0 in
+      let py = var 1 in
+      let hx = var 2 in
+      let hy = var 3 in
+      let dx = var 4 in
+      let dy = var 5 in
+      same-terms (p .x ∷ p .y ∷ h0 .x ∷ h0 .y ∷ hd .x ∷ hd .y ∷ [])
+      ((py ⊖ hy) ⊗ ⊝ dx ⊖ (px ⊖ hx) ⊗ ⊝ dy) (⊝ ((py ⊖ hy) ⊗ dx ⊖ (px ⊖ hx) ⊗ dy)) refl

@@ -1,0 +1,4 @@
+pub mod Beside
+pub mod Turns
+pub mod Orientation
+pub mod Rotations

@@ -1,0 +1,5 @@
+pub mod Side
+pub mod Group
+pub mod Orient
+pub mod Turn
+pub mod Rotate

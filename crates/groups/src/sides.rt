@@ -1,0 +1,38 @@
+// On which side of a line a point lies.
+use points::Point;
+use sizes::cross;
+use sizes::diff;
+use sizes::opposite;
+ghost use mathlib.Core.Path.{_≡_};
+ghost use Rattle.points.specs.Range.{Near};
+ghost use Rattle.corners.specs.Scores.{Direction, lineFrom};
+ghost use Rattle.groups.specs.Side.{sideOf, reversed};
+
+// The direction that leads from p to q.
+pub fn line_from(p: Point, q: Point) -> Point
+    requires { ⌜ Near p ⌝ ∗ ⌜ Near q ⌝ }
+    ensures { λ r. ⌜ r ≡ lineFrom p q ⌝ }
+{
+    let x = diff(q.x, p.x);
+    let y = diff(q.y, p.y);
+    Point { x: x, y: y }
+}
+
+// The opposite direction.
+pub fn reversed(d: Point) -> Point
+    requires { ⌜ Direction d ⌝ }
+    ensures { λ r. ⌜ r ≡ reversed d ⌝ }
+{
+    let x = opposite(d.x);
+    let y = opposite(d.y);
+    Point { x: x, y: y }
+}
+
+// How far p lies to the right of the line through h0 in the direction hd, times the length of hd.
+pub fn side_of(h0: Point, hd: Point, p: Point) -> i32
+    requires { ⌜ Near h0 ⌝ ∗ ⌜ Direction hd ⌝ ∗ ⌜ Near p ⌝ }
+    ensures { λ r. ⌜ r ≡ sideOf h0 hd p ⌝ }
+{
+    let way = line_from(h0, p);
+    cross(way.y, hd.x, way.x, hd.y)
+}
