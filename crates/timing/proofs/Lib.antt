@@ -1,3 +1,4 @@
 pub mod Counting
 pub mod Versions
 pub mod IdealLine
+pub mod Measures

@@ -1,3 +1,4 @@
 pub mod Changes
 pub mod Counted
+pub mod Measure
 pub mod Ideal
