@@ -2,3 +2,4 @@ pub mod Beside
 pub mod Turns
 pub mod Orientation
 pub mod Rotations
+pub mod Flat

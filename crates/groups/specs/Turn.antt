@@ -44,6 +44,10 @@ withSight s c =
 abbrev pub seven : Float
 seven = fin false 7 (pos 0)
 
+-- the perspective of a stone's corners
+abbrev pub sight : CapStone → Sight
+sight s = sightOf (s .corner0) (s .corner1) (s .corner2) (s .corner3) seven seven
+
 -- document 01: 15 where "a rotated capstone gives no perspective"
 unfoldable pub seen : CapStone → Sight → Finding CapStone
 seen s (Made c) = found (withSight s c)
@@ -51,7 +55,7 @@ seen s Flat = refusedBy refusal.Turned
 
 -- the stone with the perspective of its corners, made anew
 unfoldable pub sighted : CapStone → Finding CapStone
-sighted s = seen s (sightOf (s .corner0) (s .corner1) (s .corner2) (s .corner3) seven seven)
+sighted s = seen s (sight s)
 
 -- the stone turned by the line through h0 in the direction hd
 unfoldable pub rotatedOf : CapStone → Point → Point → Finding CapStone
@@ -69,3 +73,8 @@ pub record TurnedFrom (side : Point → ℤ) (s t : CapStone) : Type 0 where
   pub first : (q : Point) → Mem q before → side (t .corner0) <ℤ side q
   pub leftmost : (q : Point) → Mem q after → side (t .corner0) ≤ℤ side q
   pub center : t .center ≡ s .center
+
+-- what a rotated stone is: s turned by the line through h0 in the direction hd, with the perspective of its corners
+pub record RotatedFrom (s : CapStone) (h0 hd : Point) (t : CapStone) : Type 0 where
+  pub turned : TurnedFrom (sideOf h0 hd) s t
+  pub made : sight t ≡ Made (t .c)

@@ -17,17 +17,19 @@ pub fn orient(group: CapStoneGroup) -> Oriented
     let second = group.second;
     let third = group.third;
     let h0 = first.center;
-    let hd = line_from(h0, third.center);
+    let h2 = third.center;
+    let hd = line_from(h0, h2);
     if side_of(h0, hd, second.center) > 0 {
         let swapped = CapStoneGroup {
             first: third,
             second: second,
             third: first,
         };
+        let back = reversed(hd);
         return Oriented {
             group: swapped,
             h0: h0,
-            hd: reversed(hd),
+            hd: back,
         };
     }
     Oriented {

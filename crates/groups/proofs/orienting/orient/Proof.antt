@@ -14,12 +14,12 @@ line-from-requires c κs = search needs
 -- the line from the first centre to the third
 line : (c : tie.After-line-from) → Direction (c .line-from .result)
 line c =
-    let s = c .before .before .before .before .before .pre in
+    let s = c .before .before .before .before .before .before .pre in
     subst Direction (sym (c .line-from .ensures)) (way-direction (s .first) (s .third))
 
 side-of-requires : tie.Need-side-of-requires
 side-of-requires c κs =
-    let s = c .before .before .before .before .before .pre in
+    let s = c .before .before .before .before .before .before .pre in
     (s .first, (line c, s .second))
 
 reversed-requires : tie.Need-reversed-requires
