@@ -18,7 +18,7 @@ use Rattle.table.specs.declared.Table.{Table}
 use Rattle.regions.specs.Tests.{unlisted, ownTests, lookTests, Lookable}
 
 -- what the test of refusal 10 passes: a number that has an entry
-below : (byte n k : ℕ) → unlisted byte n ≡ false → byte ≡ 5 + k → k < n
+pub below : (byte n k : ℕ) → unlisted byte n ≡ false → byte ≡ 5 + k → k < n
 unfolding unlisted
 below byte n k e is = let e′ : leb n (byte - 5) ≡ false = rw (le-leb 5 byte (omega arith)) at e in let l = leb-false n (byte - 5) e′ in omega arith
 

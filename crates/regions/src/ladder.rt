@@ -12,7 +12,7 @@ ghost use Rattle.picture.specs.Sides.{Sized};
 ghost use Rattle.regions.specs.Tests.{unlisted, ownTests, lookTests};
 
 // Whether a byte is a number that none of n entries has.
-fn is_unlisted(byte: u8, n: usize) -> bool
+pub fn is_unlisted(byte: u8, n: usize) -> bool
     ensures { λ r. ⌜ r ≡ unlisted byte n ⌝ }
 {
     if byte < 5 {

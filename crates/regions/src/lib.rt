@@ -12,6 +12,8 @@ ghost use Rattle.regions.specs.Lookup.{Answered, Looks, LookPost};
 mod ladder;
 mod number;
 
+pub use ladder::is_unlisted;
+
 // A region that no claim has taken: its number, with its entry.
 pub struct Region {
     pub number: u8,

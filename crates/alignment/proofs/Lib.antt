@@ -1,0 +1,6 @@
+pub mod Places
+pub mod Coming
+pub mod Passes
+pub mod Kept
+pub mod Visiting
+pub mod Spiralling

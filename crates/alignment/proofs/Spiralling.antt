@@ -1,0 +1,96 @@
+-- The search goes from pass to pass: what is ahead of it is still to be searched. Assumes nothing.
+use Prim.Native.Nat.{ℕ, _*_, _≤_, _<_}
+use native.Mathlib.Omega.{arith}
+use mathlib.Core.Path.{_≡_, refl, subst}
+use mathlib.Core.List.{List, [], _∷_}
+use lib.ListN.{length}
+use Rattle.refusals.specs.Limits.{farthest}
+use Rattle.refusals.specs.Finding.{Finding, found, refusedBy}
+use Rattle.refusals.specs.declared.Refusal.{Refusal}
+use Rattle.picture.specs.Sides.{Roomy}
+use Rattle.points.specs.Range.{Near}
+use Rattle.points.specs.declared.Point.{Point}
+use Rattle.table.specs.declared.Table.{Table}
+use Rattle.table.proofs.Kept.{Proper}
+use Rattle.alignment.specs.Spiral.{firstPass, nextPass, moved, Turning}
+use Rattle.alignment.specs.Visit.{Visits}
+use Rattle.alignment.specs.Search.{Spirals, too-far, moves, stays, here, stops}
+use Rattle.alignment.specs.declared.spiral.Pass.{Pass}
+use Rattle.alignment.specs.declared.visit.Visit.{Visit}
+use Rattle.alignment.specs.declared.visit.Visit.the-variants.{Moves, Stays, Here, Refused}
+use Rattle.alignment.proofs.Passes.{After, passesLeft, next-after, step-few, first-turning, Reachable, first-near, still-near, moved-near}
+use Rattle.alignment.proofs.Kept.{Kept, kept-on, kept-still}
+use Rattle.alignment.proofs.Visiting.{visit-keeps}
+
+-- as many bytes have as much room
+still-roomy : {w h m n lent room : ℕ} → Roomy w h n lent → m ≡ n → lent ≤ room → Roomy w h m room
+still-roomy {w} {h} {room = room} R e more = rw e (record { sized = R .sized; room = omega (arith, R .room) })
+
+-- on the way: what a search from here comes to is what the whole search comes to
+module _ (p0 : List ℕ) (w h estimate : ℕ) (seed : Point) (T0 : Table) where
+  pub record Along (p : List ℕ) (lent : ℕ) (s : Pass) (at : Point) (T : Table) : Type 0 where
+    pub few : estimate ≤ farthest
+    pub roomy : Roomy w h (length p) lent
+    pub kept : Kept p0 w h p T
+    pub turning : Turning s
+    pub near : Reachable s at
+    pub then : (f : Finding (List Point)) (q : List ℕ) (U : Table) → Spirals w h estimate s at p T f q U → Spirals w h estimate firstPass seed p0 T0 f q U
+
+module _ {p0 : List ℕ} {w h estimate : ℕ} {seed : Point} {T0 : Table} where
+  pub along-begun : {lent : ℕ} {s : Pass} → estimate ≤ farthest → Roomy w h (length p0) lent → Proper T0 w h → Near seed → s ≡ firstPass → Along p0 w h estimate seed T0 p0 lent s seed T0
+  along-begun few R P N e =
+      rw e (record {
+        few = few;
+        roomy = R;
+        kept = kept-still P refl refl;
+        turning = first-turning;
+        near = first-near N;
+        then = λ f q U S. S;
+      })
+
+  module _ {p : List ℕ} {lent : ℕ} {s : Pass} {at : Point} {T : Table} (A : Along p0 w h estimate seed T0 p lent s at T) where
+    pub along-far : estimate * 100 ≤ s .step * s .step → Spirals w h estimate firstPass seed p0 T0 (found []) p T
+    along-far far = A .then _ _ _ (too-far far)
+
+    module _ (low : s .step * s .step < estimate * 100) where
+      after : After s (nextPass s)
+      after = next-after (A .turning) (step-few (s .step) estimate low (A .few))
+
+      pub along-less : passesLeft (nextPass s) < passesLeft s
+      along-less = after .less
+
+      module _ {v : Visit} {q : List ℕ} {U : Table} (X : Visits p w h T estimate at v q U) where
+        comes-to : {u : Visit} → v ≡ u → Visits p w h T estimate at u q U
+        comes-to e = subst (λ (u : Visit). Visits p w h T estimate at u q U) e X
+
+        pub along-here : v ≡ Here → Spirals w h estimate firstPass seed p0 T0 (found (at ∷ [])) q U
+        along-here e = A .then _ _ _ (here low (comes-to e))
+
+        pub along-stops : (why : Refusal) → v ≡ Refused why → Spirals w h estimate firstPass seed p0 T0 (refusedBy why) q U
+        along-stops why e = A .then _ _ _ (stops low (comes-to e))
+
+        module _ {room : ℕ} (more : lent ≤ room) where
+          keeps : Kept p w h q U
+          keeps = visit-keeps (A .roomy) (A .kept .proper) X
+
+          pub along-stays : v ≡ Stays → Along p0 w h estimate seed T0 q room (nextPass s) at U
+          along-stays e =
+              record {
+                few = A .few;
+                roomy = still-roomy (A .roomy) (keeps .len) more;
+                kept = kept-on (A .kept) keeps;
+                turning = after .turning;
+                near = still-near (after .less) (A .near);
+                then = λ f r Z S. A .then f r Z (stays low (comes-to e) S);
+              }
+
+          pub along-moves : v ≡ Moves → Along p0 w h estimate seed T0 q room (nextPass s) (moved s at) U
+          along-moves e =
+              record {
+                few = A .few;
+                roomy = still-roomy (A .roomy) (keeps .len) more;
+                kept = kept-on (A .kept) keeps;
+                turning = after .turning;
+                near = moved-near (after .less) (A .near);
+                then = λ f r Z S. A .then f r Z (moves low (comes-to e) S);
+              }

@@ -1,0 +1,3 @@
+pub mod Spiral
+pub mod Visit
+pub mod Search
