@@ -4,3 +4,5 @@ pub mod Passes
 pub mod Kept
 pub mod Visiting
 pub mod Spiralling
+pub mod Sighted
+pub mod Determined

@@ -23,7 +23,7 @@ use Rattle.alignment.proofs.Kept.{Kept, kept-on, kept-still}
 use Rattle.alignment.proofs.Visiting.{visit-keeps}
 
 -- as many bytes have as much room
-still-roomy : {w h m n lent room : ℕ} → Roomy w h n lent → m ≡ n → lent ≤ room → Roomy w h m room
+pub still-roomy : {w h m n lent room : ℕ} → Roomy w h n lent → m ≡ n → lent ≤ room → Roomy w h m room
 still-roomy {w} {h} {room = room} R e more = rw e (record { sized = R .sized; room = omega (arith, R .room) })
 
 -- on the way: what a search from here comes to is what the whole search comes to

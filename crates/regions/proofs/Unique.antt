@@ -61,7 +61,7 @@ module _ {p : List ℕ} {w h lent : ℕ} {T : Table} {x y : ℕ} (L : Lookable p
         F .table ∙ ap (replaced T k) e ∙ sym (G .table),
       )
 
-  looks-unique : Looks p w h x y T a q U → Looks p w h x y T b r W → Alike a q U b r W
+  pub looks-unique : Looks p w h x y T a q U → Looks p w h x y T b r W → Alike a q U b r W
   looks-unique (at-claimed C) (at-claimed D) = (C .answer ∙ sym (D .answer), C .picture ∙ sym (D .picture), C .table ∙ sym (D .table))
   looks-unique (at-claimed C) (at-known D) = absurd (omega arith)
   looks-unique (at-claimed C) (at-fresh D) = absurd (omega arith)
