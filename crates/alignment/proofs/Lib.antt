@@ -6,3 +6,4 @@ pub mod Visiting
 pub mod Spiralling
 pub mod Sighted
 pub mod Determined
+pub mod Aligned

@@ -1,3 +1,4 @@
 pub mod Spiral
 pub mod Visit
 pub mod Search
+pub mod Pattern
