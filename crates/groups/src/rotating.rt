@@ -13,18 +13,16 @@ pub fn rotate_group(o: Oriented) -> Rotation
     ensures { λ r. ⌜ meaning r ≡ rotatedGroup o ⌝ }
 {
     let group = o.group;
-    let a = group.first;
-    let b = group.second;
-    let c = group.third;
+    let last = group.third;
     let h0 = o.h0;
     let hd = o.hd;
-    let Rotated::Stone(first) = rotate_capstone(a, h0, hd) else {
+    let Rotated::Stone(first) = rotate_capstone(group.first, h0, hd) else {
         return Rotation::Turned;
     };
-    let Rotated::Stone(second) = rotate_capstone(b, h0, hd) else {
+    let Rotated::Stone(second) = rotate_capstone(group.second, h0, hd) else {
         return Rotation::Turned;
     };
-    let Rotated::Stone(third) = rotate_capstone(c, h0, hd) else {
+    let Rotated::Stone(third) = rotate_capstone(last, h0, hd) else {
         return Rotation::Turned;
     };
     Rotation::Group(CapStoneGroup {

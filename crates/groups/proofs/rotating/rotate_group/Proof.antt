@@ -7,7 +7,7 @@ use Rattle.groups.proofs.rotating.rotate_group.Statement.{statement}
 use Rattle.groups.proofs.rotating.rotate_group.Tie as tie
 
 rotate-capstone-requires : tie.Need-rotate-capstone-requires
-rotate-capstone-requires c κs = let s = c .before .before .before .before .before .before .pre in search needs
+rotate-capstone-requires c κs = let s = c .before .before .before .before .pre in search needs
 
 enum-known-first : tie.Need-enum-known-first
 enum-known-first c = search needs
@@ -22,7 +22,7 @@ returns c =
     rw flat
 
 rotate-capstone-requires-2 : tie.Need-rotate-capstone-requires-2
-rotate-capstone-requires-2 c κs = let s = c .before .before .before .before .before .before .before .before .before .before .pre in search needs
+rotate-capstone-requires-2 c κs = let s = c .before .before .before .before .before .before .before .before .pre in search needs
 
 enum-known-second : tie.Need-enum-known-second
 enum-known-second c = search needs
@@ -40,7 +40,7 @@ returns-2 c =
     rw (first, flat)
 
 rotate-capstone-requires-3 : tie.Need-rotate-capstone-requires-3
-rotate-capstone-requires-3 c κs = let s = c .before .before .before .before .before .before .before .before .before .before .before .before .before .before .pre in search needs
+rotate-capstone-requires-3 c κs = let s = c .before .before .before .before .before .before .before .before .before .before .before .before .pre in search needs
 
 enum-known-third : tie.Need-enum-known-third
 enum-known-third c = search needs
