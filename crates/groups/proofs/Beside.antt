@@ -81,3 +81,25 @@ module _ (h0 hd p : Point) where
       let dy = var 5 in
       same-terms (p .x ∷ p .y ∷ h0 .x ∷ h0 .y ∷ hd .x ∷ hd .y ∷ [])
       ((py ⊖ hy) ⊗ ⊝ dx ⊖ (px ⊖ hx) ⊗ ⊝ dy) (⊝ ((py ⊖ hy) ⊗ dx ⊖ (px ⊖ hx) ⊗ dy)) refl
+
+module _ (a b : Point) where
+  -- the way back
+  pub line-reversed : reversed (lineFrom a b) ≡ lineFrom b a
+  unfolding reversed lineFrom
+  line-reversed = λ i. record { x = back-is (a .x) (b .x) i; y = back-is (a .y) (b .y) i }
+    where
+      back-is : (u v : ℤ) → negℤ (v -ℤ u) ≡ u -ℤ v
+      back-is u v = same-terms (u ∷ v ∷ []) (⊝ (var 1 ⊖ var 0)) (var 0 ⊖ var 1) refl
+
+  -- a line is the same from either of its ends
+  pub either-end : (p : Point) → sideOf a (lineFrom b a) p ≡ sideOf b (lineFrom b a) p
+  unfolding sideOf acrossOf lineFrom
+  either-end p =
+      let px = var 0 in
+      let py = var 1 in
+      let ax = var 2 in
+      let ay = var 3 in
+      let bx = var 4 in
+      let by = var 5 in
+      same-terms (p .x ∷ p .y ∷ a .x ∷ a .y ∷ b .x ∷ b .y ∷ [])
+      ((py ⊖ ay) ⊗ (ax ⊖ bx) ⊖ (px ⊖ ax) ⊗ (ay ⊖ by)) ((py ⊖ by) ⊗ (ax ⊖ bx) ⊖ (px ⊖ bx) ⊗ (ay ⊖ by)) refl

@@ -9,10 +9,9 @@ mod turning;
 
 pub use orienting::orient;
 pub use rotating::rotate_group;
-pub use sides::side_of;
 pub use turning::rotate_capstone;
 
-// Three stones: the second is the one at the symbol's corner, the others lie beside it.
+// Three stones: the first and the third lie beside the second, each along one side of the symbol.
 pub struct CapStoneGroup {
     pub first: CapStone,
     pub second: CapStone,
