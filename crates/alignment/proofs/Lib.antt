@@ -7,3 +7,4 @@ pub mod Spiralling
 pub mod Sighted
 pub mod Determined
 pub mod Aligned
+pub mod Areas

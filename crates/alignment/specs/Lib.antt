@@ -2,3 +2,4 @@ pub mod Spiral
 pub mod Visit
 pub mod Search
 pub mod Pattern
+pub mod Estimate

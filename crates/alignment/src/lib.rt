@@ -1,9 +1,12 @@
-// The alignment pattern: the spiral that looks for it from a seed (identify/grid.rs, `find_alignment_pattern`).
+// The alignment pattern: how large it is taken to be, the spiral that looks for it, and its claim (identify/grid.rs, `find_alignment_pattern` and `from_group`).
+mod estimate;
 mod pattern;
 mod search;
 mod spiral;
 mod visit;
 
+pub use estimate::Estimate;
+pub use estimate::size_estimate;
 pub use pattern::leftmost;
 pub use search::Sighting;
 pub use search::Sought;

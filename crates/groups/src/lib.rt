@@ -9,6 +9,8 @@ mod turning;
 
 pub use orienting::orient;
 pub use rotating::rotate_group;
+pub use sides::line_from;
+pub use sides::side_of;
 pub use turning::rotate_capstone;
 
 // Three stones: the first and the third lie beside the second, each along one side of the symbol.
