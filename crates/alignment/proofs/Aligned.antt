@@ -99,6 +99,6 @@ module _ {p : List ℕ} {w h lent : ℕ} {at hd : Point} (C : Claimable p w h le
   claim-determined A B = (point-found A ∙ sym (point-found B), paints-unique (C .roomy .sized .whole) (on .2) (claim-paints A) (claim-paints B))
 
 -- a place that the search answers can be claimed
-pub sighted-claimable : {q : List ℕ} {w h lent : ℕ} {at hd : Point} → Roomy w h (length q) lent → Sighted q w h at → Direction hd → Claimable q w h lent at hd
+unfoldable pub sighted-claimable : {q : List ℕ} {w h lent : ℕ} {at hd : Point} → Roomy w h (length q) lent → Sighted q w h at → Direction hd → Claimable q w h lent at hd
 sighted-claimable {w = w} {h = h} R S D =
     record { roomy = R; x = S .x; y = S .y; place = rw (S .is) (on-picture w h (S .x) (S .y) (S .in-x) (S .in-y)); other = λ e. omega (arith, S .shows); line = D }
