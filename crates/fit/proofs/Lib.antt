@@ -1,0 +1,4 @@
+pub mod Taken
+pub mod Scratch
+pub mod Kept
+pub mod Determined
