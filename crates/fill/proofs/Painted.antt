@@ -44,6 +44,10 @@ pub paint-none : (p : List ℕ) (i t : ℕ) → p ≡ paintRun p i 0 t
 unfolding paintRun
 paint-none p i t = refl
 
+pub paint-one : (p : List ℕ) (i t : ℕ) → set p i t ≡ paintRun p i 1 t
+unfolding paintRun
+paint-one p i t = ap (λ (j : ℕ). set p j t) (omega arith)
+
 pub paint-more : (p : List ℕ) (i n t : ℕ) → set (paintRun p i n t) (i + n) t ≡ paintRun p i (n + 1) t
 unfolding paintRun
 paint-more p i n t = rw (add-one) refl

@@ -50,11 +50,15 @@ pub fn row_at(pic: &[u8], w: usize, y: usize, base: usize, x: usize, from: u8) -
     }
 }
 
-// Paints n bytes from `at` on.
+// Paints n bytes from `at` on. A single byte is written without the loop: rows of one pixel are frequent.
 pub fn paint_run(pic: &mut [u8], at: usize, n: usize, to: u8)
     requires { do ⌜ at + n ≤ (← ⟦pic.len()⟧) ⌝ }
     ensures { λ _. ⌜ now (pic .exit) ≡ paintRun (now (pic .entry)) at n to ⌝ }
 {
+    if n == 1 {
+        pic[at] = to;
+        return;
+    }
     let mut k = 0;
     while k < n {
         pic[at + k] = to;
