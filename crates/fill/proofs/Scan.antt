@@ -47,6 +47,13 @@ module _ (p : List ℕ) (w f y : ℕ) where
       pub seeds-new-at : (x z n m : ℕ) (on : Bool) (st st′ : List A) → on ≡ false → st′ ≡ mk x ∷ st → z ≡ suc x → n ≡ suc m → getD p (base + x) 0 ≡ f → seeds mk p w f y x n on st ≡ seeds mk p w f y z m true st′
       seeds-new-at x z n m on st st′ t q e e′ h = rw (t, e, e′, q) (seeds-new x m st (here x h))
 
+      -- a scan of one column
+      pub seeds-none : (x : ℕ) (st : List A) → (getD p (base + x) 0 ≡ f → ⊥) → seeds mk p w f y x 1 false st ≡ st
+      seeds-none x st h = seeds-off x 0 false st (not-here x h) ∙ seeds-end (suc x) false st
+
+      pub seeds-one : (x : ℕ) (st : List A) → getD p (base + x) 0 ≡ f → seeds mk p w f y x 1 false st ≡ mk x ∷ st
+      seeds-one x st h = seeds-new x 0 st (here x h) ∙ seeds-end (suc x) true (mk x ∷ st)
+
 -- in a scan of line y that starts at column o, bytes f begin at e
 abbrev pub First : List ℕ → ℕ → ℕ → ℕ → ℕ → ℕ → Type 0
 First p w f y o e = (k : ℕ) → suc k ≡ e → o ≤ k → px p w k y ≡ f → ⊥

@@ -8,6 +8,28 @@ ghost use Rattle.fill.specs.Order.{seeds, above, below};
 ghost use Rattle.fill.specs.Stack.{widest, held};
 ghost use Rattle.fill.specs.Fill.{Sized};
 
+// Pushes an entry for the column x, where it shows `from`.
+fn seed_pixel(
+    pic: &[u8],
+    w: usize,
+    y: usize,
+    base: usize,
+    x: usize,
+    from: u8,
+    stack: &mut [u32],
+    sp: usize,
+) -> usize
+    requires { do ⌜ (base ≡ y * w) × (base + x < (← ⟦pic.len()⟧)) × (x < widest) × (y < widest) ⌝ }
+    requires { do ⌜ length (seeds (λ e. pixel e y) (now pic) w from y x 1 false (held (now stack) sp)) ≤ (← ⟦stack.len()⟧) ⌝ }
+    ensures { λ r. ⌜ held (now (stack .exit)) r ≡ seeds (λ e. pixel e y) (now (pic .entry)) w from y x 1 false (held (now (stack .entry)) sp) ⌝ }
+{
+    if pic[base + x] != from {
+        return sp;
+    }
+    stack[sp] = (y * 1024 + x) as u32;
+    sp + 1
+}
+
 // Pushes an entry for each of n columns from left on at which bytes `from` begin, on the line y, which starts at base. Answers the stack's new size.
 pub fn seed_line(
     pic: &[u8],
@@ -24,6 +46,9 @@ pub fn seed_line(
     requires { do ⌜ length (seeds (λ e. pixel e y) (now pic) w from y left n false (held (now stack) sp)) ≤ (← ⟦stack.len()⟧) ⌝ }
     ensures { λ r. ⌜ held (now (stack .exit)) r ≡ seeds (λ e. pixel e y) (now (pic .entry)) w from y left n false (held (now (stack .entry)) sp) ⌝ }
 {
+    if n == 1 {
+        return seed_pixel(pic, w, y, base, left, from, stack, sp);
+    }
     let mut top = sp;
     let mut on = false;
     let mut k = 0;
