@@ -18,18 +18,18 @@ module _ (c : tie.Start) where
   all = fits-cross (c .args .a) (c .args .x) (c .args .b) (c .args .y) (c .pre)
 
 mul-result : tie.Need-mul-result
-mul-result c = rw (toZ-ofZ (c .fits .a), toZ-ofZ (c .fits .x)) (ax c)
+mul-result c = simp (toZ-ofZ (c .fits .a), toZ-ofZ (c .fits .x), toZ-ofZ (c .fits .b), toZ-ofZ (c .fits .y)) (ax c)
 
 mul-result-2 : tie.Need-mul-result-2
-mul-result-2 c = rw (toZ-ofZ (c .fits .b), toZ-ofZ (c .fits .y)) (by c)
+mul-result-2 c = simp (toZ-ofZ (c .fits .a), toZ-ofZ (c .fits .x), toZ-ofZ (c .fits .b), toZ-ofZ (c .fits .y)) (by c)
 
 sub-result : tie.Need-sub-result
 sub-result c =
-    rw (toZ-ofZ (c .fits .a), toZ-ofZ (c .fits .x), toZ-ofZ (c .fits .b), toZ-ofZ (c .fits .y), toZ-ofZ (ax c), toZ-ofZ (by c)) (all c)
+    simp (toZ-ofZ (c .fits .a), toZ-ofZ (c .fits .x), toZ-ofZ (c .fits .b), toZ-ofZ (c .fits .y), toZ-ofZ (ax c), toZ-ofZ (by c)) (all c)
 
 returns : tie.Need-returns
 returns c =
-    rw (toZ-ofZ (c .fits .a), toZ-ofZ (c .fits .x), toZ-ofZ (c .fits .b), toZ-ofZ (c .fits .y), toZ-ofZ (ax c), toZ-ofZ (by c))
+    simp (toZ-ofZ (c .fits .a), toZ-ofZ (c .fits .x), toZ-ofZ (c .fits .b), toZ-ofZ (c .fits .y), toZ-ofZ (ax c), toZ-ofZ (by c))
     (toZ-ofZ (all c))
 
 pub cross-spec : {M : Type 1} → statement M

@@ -18,18 +18,18 @@ module _ (c : tie.Start) where
   all = fits-dot (c .args .a) (c .args .x) (c .args .b) (c .args .y) (c .pre)
 
 mul-result : tie.Need-mul-result
-mul-result c = rw (toZ-ofZ (c .fits .a), toZ-ofZ (c .fits .x)) (ax c)
+mul-result c = simp (toZ-ofZ (c .fits .a), toZ-ofZ (c .fits .x), toZ-ofZ (c .fits .b), toZ-ofZ (c .fits .y)) (ax c)
 
 mul-result-2 : tie.Need-mul-result-2
-mul-result-2 c = rw (toZ-ofZ (c .fits .b), toZ-ofZ (c .fits .y)) (by c)
+mul-result-2 c = simp (toZ-ofZ (c .fits .a), toZ-ofZ (c .fits .x), toZ-ofZ (c .fits .b), toZ-ofZ (c .fits .y)) (by c)
 
 add-result : tie.Need-add-result
 add-result c =
-    rw (toZ-ofZ (c .fits .a), toZ-ofZ (c .fits .x), toZ-ofZ (c .fits .b), toZ-ofZ (c .fits .y), toZ-ofZ (ax c), toZ-ofZ (by c)) (all c)
+    simp (toZ-ofZ (c .fits .a), toZ-ofZ (c .fits .x), toZ-ofZ (c .fits .b), toZ-ofZ (c .fits .y), toZ-ofZ (ax c), toZ-ofZ (by c)) (all c)
 
 returns : tie.Need-returns
 returns c =
-    rw (toZ-ofZ (c .fits .a), toZ-ofZ (c .fits .x), toZ-ofZ (c .fits .b), toZ-ofZ (c .fits .y), toZ-ofZ (ax c), toZ-ofZ (by c))
+    simp (toZ-ofZ (c .fits .a), toZ-ofZ (c .fits .x), toZ-ofZ (c .fits .b), toZ-ofZ (c .fits .y), toZ-ofZ (ax c), toZ-ofZ (by c))
     (toZ-ofZ (all c))
 
 pub dot-spec : {M : Type 1} → statement M

@@ -6,10 +6,10 @@ use Rattle.sizes.proofs.opposite.Statement.{statement}
 use Rattle.sizes.proofs.opposite.Tie as tie
 
 sub-result : tie.Need-sub-result
-sub-result c = rw (toZ-ofZ (c .fits .a), +ℤ-idl (negℤ (c .args .a))) (fits-neg (c .args .a) (c .pre))
+sub-result c = simp (toZ-ofZ (c .fits .a), +ℤ-idl (negℤ (c .args .a))) (fits-neg (c .args .a) (c .pre))
 
 returns : tie.Need-returns
-returns c = rw (toZ-ofZ (c .fits .a), +ℤ-idl (negℤ (c .args .a))) (toZ-ofZ (fits-neg (c .args .a) (c .pre)))
+returns c = simp (toZ-ofZ (c .fits .a), +ℤ-idl (negℤ (c .args .a))) (toZ-ofZ (fits-neg (c .args .a) (c .pre)))
 
 pub opposite-spec : {M : Type 1} → statement M
 opposite-spec = tie.close (tie.spec sub-result returns)

@@ -5,10 +5,10 @@ use Rattle.sizes.proofs.sum.Statement.{statement}
 use Rattle.sizes.proofs.sum.Tie as tie
 
 add-result : tie.Need-add-result
-add-result c = rw (toZ-ofZ (c .fits .a), toZ-ofZ (c .fits .b)) (fits-add (c .args .a) (c .args .b) (c .pre))
+add-result c = simp (toZ-ofZ (c .fits .a), toZ-ofZ (c .fits .b)) (fits-add (c .args .a) (c .args .b) (c .pre))
 
 returns : tie.Need-returns
-returns c = rw (toZ-ofZ (c .fits .a), toZ-ofZ (c .fits .b)) (toZ-ofZ (fits-add (c .args .a) (c .args .b) (c .pre)))
+returns c = simp (toZ-ofZ (c .fits .a), toZ-ofZ (c .fits .b)) (toZ-ofZ (fits-add (c .args .a) (c .args .b) (c .pre)))
 
 pub sum-spec : {M : Type 1} → statement M
 sum-spec = tie.close (tie.spec add-result returns)

@@ -1,7 +1,7 @@
 -- `start` meets its contract: its distances are small enough to have a size. Assumes nothing.
 use borrow.Author.Needs.{needs}
 use native.Mathlib.Omega.{arith}
-use mathlib.Core.Path.{_≡_}
+use mathlib.Core.Path.{_≡_, _∙_}
 use mir.Syntax.{w32}
 use mir.Val.{toZ, ofZ}
 use mir.Facts.{toZ-ofZ}
@@ -32,7 +32,9 @@ returns c =
     let s = u1 .before in
     let x : toZ w32 (ofZ w32 (s .args .from .x)) ≡ s .args .from .x = search needs in
     let y : toZ w32 (ofZ w32 (s .args .from .y)) ≡ s .args .from .y = search needs in
-    rw (x, y, read-back (w1 .way .result) (w1 .way .ok), read-back (w2 .way2 .result) (w2 .way2 .ok), w1 .way .ensures, w2 .way2 .ensures, u1 .unsigned-abs .ensures, u2 .unsigned-abs2 .ensures, toZ-ofZ (s .fits .lead), toZ-ofZ (s .fits .side))
+    let dom = read-back (w1 .way .result) (w1 .way .ok) ∙ w1 .way .ensures in
+    let non = read-back (w2 .way2 .result) (w2 .way2 .ok) ∙ w2 .way2 .ensures in
+    simp (x, y, dom, non, u1 .unsigned-abs .ensures, u2 .unsigned-abs2 .ensures, toZ-ofZ (s .fits .lead), toZ-ofZ (s .fits .side))
 
 pub start-spec : {M : Type 1} → statement M
 start-spec =

@@ -21,7 +21,7 @@ returns-2 c =
     let s = c .before .before .before in
     let x : toZ w32 (ofZ w32 (s .args .self .x)) ≡ s .args .self .x = search needs in
     let y : toZ w32 (ofZ w32 (s .args .self .y)) ≡ s .args .self .y = search needs in
-    rw (le-ltb _ _ (c .before .before .if1 .left), c .before .next .ensures, x, y)
+    simp (le-ltb _ _ (c .before .before .if1 .left), c .before .next .ensures, x, y)
 
 pub step-spec : {M : Type 1} → statement M
 step-spec = tie.close (tie.spec returns next-requires returns-2)
