@@ -1,4 +1,0 @@
-pub mod Tell
-pub mod Reach
-pub mod Scanned
-pub mod Listing

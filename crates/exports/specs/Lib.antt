@@ -1,5 +1,0 @@
-pub mod Answer
-pub mod Points
-pub mod Pictures
-pub mod Claims
-pub mod Rows

@@ -1,0 +1,3 @@
+// The calls on lines and scans.
+pub mod line;
+pub mod scan;

@@ -1,0 +1,3 @@
+// The calls on numbers and perspectives: round, create, map and unmap.
+pub mod perspective;
+pub mod whole;
