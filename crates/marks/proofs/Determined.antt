@@ -6,7 +6,7 @@ use mathlib.Core.Bool.{Bool, _&&_}
 use mathlib.Core.List.{List, [], _++_}
 use mathlib.Core.Logic.{inl, inr}
 use lib.Dec.{eqb}
-use Rattle.refusals.specs.Finding.{Finding, found}
+use Rattle.refusals.specs.Finding.{Finding, found, refused}
 use Rattle.refusals.proofs.Distinct.{refusal-only}
 use Rattle.picture.specs.declared.Verdict.{Verdict}
 use Rattle.picture.specs.declared.Verdict.the-variants.{Sound, Refused}
@@ -30,10 +30,12 @@ use Rattle.marks.specs.InWork.{InWork, AtCut}
 use Rattle.marks.specs.Ring.{paired, Tests}
 use Rattle.marks.specs.Stone.{stoneOf, firstCorner, Ringed, Rings, Creates}
 use Rattle.marks.specs.Search.{Tries, no-ring, ring, Place, allCuts, Searches, finished, tried, stopped, stonesOf, told, outcome, laidOut, countIn, Laid}
+use Rattle.marks.specs.OfBitmap.{OfBitmap, refuses, searches}
 use Rattle.marks.specs.declared.search.Marks.{Marks}
 use Rattle.marks.proofs.Cut.{ring-lookable, stone-lookable, tests-ringed}
 use Rattle.marks.proofs.Searching.{Stands, still-dark, tries-go}
 use Rattle.marks.proofs.Whole.{all-stand}
+use Rattle.marks.proofs.Begin.{begins-work}
 
 looks-same : {p : List ℕ} {w h lent : ℕ} {T : Table} {x y : ℕ} → Lookable p w h lent T x y → {a b : Answer} {q r : List ℕ} {U Z : Table} → Looks p w h x y T a q U → Looks p w h x y T b r Z → Alike a q U b r Z
 looks-same {p} {w} {h} {lent} {T} {x} {y} L {a} {b} X Y =
@@ -111,12 +113,26 @@ verdict-only Sound (Refused b) k l e = let z : _≡_ {A = ℕ} 0 1 = cc in absur
 verdict-only (Refused a) Sound k l e = let z : _≡_ {A = ℕ} 0 1 = cc in absurd (omega arith)
 verdict-only (Refused a) (Refused b) k l e = ap Refused (refusal-only {a = a} {b = b} e)
 
+-- marks of one outcome and one table are the same
+same-marks : (s t : Marks) → outcome s ≡ outcome t → s .table ≡ t .table → Laid s → Laid t → s ≡ t
+same-marks s t e table X Y =
+    let stones = X .stones ∙ ap laidOut e ∙ sym (Y .stones) in
+    let n = X .count ∙ ap countIn e ∙ sym (Y .count) in
+    let verdict = verdict-only (s .verdict) (t .verdict) (stonesOf s) (stonesOf t) e in
+    λ i. record { stones = stones i; n = n i; table = table i; verdict = verdict i }
+
 -- the marks, the picture and the table are determined
 pub marks-determined : {p : List ℕ} {w h lent : ℕ} {T : Table} {q r : List ℕ} (s t : Marks) → InWork p w h lent T
     → Searches w h (allCuts p w h) p T [] (outcome s) q (s .table) × Laid s → Searches w h (allCuts p w h) p T [] (outcome t) r (t .table) × Laid t → (s ≡ t) × (q ≡ r)
 marks-determined {p} {w} {h} s t W X Y =
     let e = search-same W (all-stand p w h) (X .0) (Y .0) in
-    let stones = X .1 .stones ∙ ap laidOut (e .0) ∙ sym (Y .1 .stones) in
-    let n = X .1 .count ∙ ap countIn (e .0) ∙ sym (Y .1 .count) in
-    let verdict = verdict-only (s .verdict) (t .verdict) (stonesOf s) (stonesOf t) (e .0) in
-    ((λ i. record { stones = stones i; n = n i; table = e .2 i; verdict = verdict i }), e .1)
+    (same-marks s t (e .0) (e .2) (X .1) (Y .1), e .1)
+
+-- and so they are for any bitmap that a caller hands over
+pub bitmap-determined : {p : List ℕ} {w h lent : ℕ} {q r : List ℕ} (s t : Marks) → OfBitmap p w h lent q s → OfBitmap p w h lent r t → (s ≡ t) × (q ≡ r)
+bitmap-determined s t (refuses n e same is table laid) (refuses m f same′ is′ table′ laid′) =
+    let one : n ≡ m = cc in
+    (same-marks s t (is ∙ ap refused one ∙ sym is′) (table ∙ sym table′) laid laid′, same ∙ sym same′)
+bitmap-determined s t (refuses n e same is table laid) (searches f S laid′) = let z : _≡_ {A = ℕ} 0 1 = cc in absurd (omega arith)
+bitmap-determined s t (searches e S laid) (refuses m f same′ is′ table′ laid′) = let z : _≡_ {A = ℕ} 0 1 = cc in absurd (omega arith)
+bitmap-determined {p} {w} {h} {lent} s t (searches e S laid) (searches f R laid′) = marks-determined s t (begins-work p w h lent e) (S, laid) (R, laid′)

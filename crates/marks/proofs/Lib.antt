@@ -7,4 +7,5 @@ pub mod Reach
 pub mod Array
 pub mod Searching
 pub mod Whole
+pub mod Begin
 pub mod Determined

@@ -1,5 +1,5 @@
 -- A search keeps the picture in work, and goes on from cut to cut and from line to line. Assumes nothing.
-use Prim.Native.Nat.{ℕ, suc, _+_, _-_, _*_, _≤_, _<_}
+use Prim.Native.Nat.{ℕ, zero, suc, _+_, _-_, _*_, _≤_, _<_}
 use native.Mathlib.Numerals.{add-one}
 use native.Mathlib.Omega.{arith}
 use mathlib.Core.Path.{_≡_, refl, sym, ap, _∙_, subst}
@@ -25,6 +25,7 @@ use Rattle.pieces.specs.Count.{Mem}
 use Rattle.table.specs.declared.Table.{Table}
 use Rattle.scanner.specs.Edges.{dark}
 use Rattle.scanner.specs.Cuts.{lineCuts}
+use Rattle.scanner.specs.Lines.{some, nextLine}
 use Rattle.scanner.specs.Scan.{begun, ahead, OnLine, Comes, to-cut, to-end}
 use Rattle.scanner.specs.declared.Advanced.{Advanced}
 use Rattle.scanner.specs.declared.Advanced.the-variants.{Cut, Done}
@@ -33,6 +34,7 @@ use Rattle.scanner.specs.declared.LineScanner.{LineScanner}
 use Rattle.scanner.proofs.Dark.{OnDark, line-dark}
 use Rattle.scanner.proofs.Ahead.{begins, begun-on}
 use Rattle.scanner.proofs.Alike.{ahead-alike, line-alike}
+use Rattle.scanner.proofs.NextLine.{none-on, next-alike}
 use Rattle.corners.specs.declared.all_corners.AllCornerFinder.{AllCornerFinder}
 use Rattle.capstones.specs.declared.CapStone.{CapStone}
 use Rattle.marks.specs.InWork.{InWork, AtCut}
@@ -251,6 +253,27 @@ lines-from : (p : List ℕ) (w h y : ℕ) → y < h → cutsFrom p w (h - y) y �
 unfolding cutsFrom
 lines-from p w h y low = let left : h - y ≡ suc (h - (y + 1)) = omega arith in rw (left, add-one y)
 
+-- the lines that are passed over have no cut
+record Passes (p : List ℕ) (w n y to : ℕ) : Type 0 where
+  from : y ≤ to
+  at-most : to ≤ y + n
+  cuts : cutsFrom p w n y ≡ cutsFrom p w ((y + n) - to) to
+
+passes : (p : List ℕ) (w n y : ℕ) → Passes p w n y (nextLine p w n y)
+unfolding nextLine cutsFrom
+passes p w zero y = let none : (y + 0) - y ≡ 0 = omega arith in record { from = omega arith; at-most = omega arith; cuts = rw none }
+passes p w (suc n) y = go (some (lineCuts p (y * w) w)) refl (passes p w n (suc y))
+  where
+    go : (b : Bool) → some (lineCuts p (y * w) w) ≡ b → Passes p w n (suc y) (nextLine p w n (suc y)) → Passes p w (suc n) y (cond b y (nextLine p w n (suc y)))
+    go true e P = let all : (y + suc n) - y ≡ suc n = omega arith in record { from = omega arith; at-most = omega arith; cuts = rw all }
+    go false e P =
+        let bare : placesOn y (lineCuts p (y * w) w) ≡ [] = rw (none-on _ e) in
+        let same : y + suc n ≡ suc y + n = omega arith in
+        record { from = omega (arith, P .from); at-most = omega (arith, P .at-most); cuts = rw (bare, same, P .cuts) }
+
+pub next-from : (p : List ℕ) (w n y : ℕ) {to : ℕ} → to ≡ nextLine p w n y → y ≤ to
+next-from p w n y e = omega (arith, e, passes p w n y .from)
+
 -- down a picture: the lines below are still to be searched
 module _ (p0 : List ℕ) (w h : ℕ) (T0 : Table) where
   pub record Down (p : List ℕ) (lent y : ℕ) (s : Marks) : Type 0 where
@@ -296,3 +319,17 @@ module _ {p0 : List ℕ} {w h : ℕ} {T0 : Table} where
             going = e;
             then = λ f u U R. D .then f u U (rw (lines-from p0 w h y low) (search-on first-cuts e R));
           }
+
+    -- from there on to the next line that has a cut
+    pub down-passes : {to : ℕ} → to ≡ nextLine p w (h - y) y → Down p0 w h T0 p lent to s
+    down-passes {to} e =
+        let is : to ≡ nextLine p0 w (h - y) y = e ∙ sym (next-alike p0 p w (D .goes .alike) (h - y) y) in
+        let P : Passes p0 w (h - y) y to = rw is (passes p0 w (h - y) y) in
+        let below : (y + (h - y)) - to ≡ h - to = omega (arith, D .low) in
+        record {
+          goes = D .goes;
+          low = omega (arith, D .low, P .at-most);
+          laid = D .laid;
+          going = D .going;
+          then = λ f q U S. D .then f q U (rw (P .cuts, below) S);
+        }

@@ -2,3 +2,4 @@ pub mod InWork
 pub mod Ring
 pub mod Stone
 pub mod Search
+pub mod OfBitmap

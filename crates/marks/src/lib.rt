@@ -1,8 +1,10 @@
 // Marks: the finder patterns of a picture, found line by line (detect.rs).
+mod bitmap;
 mod ring;
 mod search;
 mod stone;
 
+pub use bitmap::search_bitmap;
 pub use ring::Tested;
 pub use ring::is_capstone;
 pub use search::Marks;

@@ -9,6 +9,7 @@ use refusals::Refusal;
 use scanner::Advanced;
 use scanner::LinePosition;
 use scanner::LineScanner;
+use scanner::next_line;
 use table::Table;
 ghost use mathlib.Core.Path.{_≡_};
 ghost use mathlib.Core.List.{[], _∷_, _++_};
@@ -103,7 +104,7 @@ fn blanks() -> [CapStone; 64]
 }
 
 // No marks, but a refusal.
-fn refused(why: Refusal, table: Table) -> Marks
+pub fn refused(why: Refusal, table: Table) -> Marks
     ensures { λ r. ⌜ (outcome r ≡ refusedBy why) × Laid r × (r .table ≡ table) ⌝ }
 {
     let stones = blanks();
@@ -199,7 +200,7 @@ fn search_line(
     }
 }
 
-// Finds all marks of a picture, line by line from the top. The picture keeps the paint, also where the search is refused.
+// Finds all marks of a picture, line by line from the top; only lines that have a cut are searched. The picture keeps the paint, also where the search is refused.
 pub fn capstones_from_image(
     pic: &mut [u8],
     width: usize,
@@ -211,14 +212,14 @@ pub fn capstones_from_image(
     ensures { λ r. ⌜ Searches width height (allCuts (now (pic .entry)) width height) (now (pic .entry)) table [] (outcome r) (now (pic .exit)) (r .table) × Laid r ⌝ }
 {
     let mut marks = no_marks(table);
-    let mut y: usize = 0;
+    let mut y = next_line(pic, width, height, 0);
     while y < height {
         marks = search_line(pic, width, height, stack, marks, y);
         let verdict = marks.verdict;
         if !is_sound(verdict) {
             return marks;
         }
-        y += 1;
+        y = next_line(pic, width, height, y + 1);
     }
     marks
 }

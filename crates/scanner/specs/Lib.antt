@@ -3,3 +3,4 @@ pub mod Cuts
 pub mod Scan
 pub mod Machine
 pub mod Line
+pub mod Lines

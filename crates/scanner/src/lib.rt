@@ -10,6 +10,10 @@ ghost use Rattle.scanner.specs.Cuts.{isCut};
 ghost use Rattle.scanner.specs.Scan.{begun, passed, OnLine, Comes};
 use runs::is_mark_like;
 
+mod lines;
+
+pub use lines::next_line;
+
 // A cut through what may be a mark: the first columns of its left edge, of its stone and of its right edge.
 pub struct LinePosition {
     pub left: usize,
