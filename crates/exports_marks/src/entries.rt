@@ -1,0 +1,43 @@
+// A region table into a lent slice.
+use table::Entry;
+use table::Table;
+ghost use mathlib.Core.Path.{_≡_};
+ghost use mathlib.Core.List.{[], _∷_};
+ghost use Prim.Native.Nat.{_+_, _≤_};
+ghost use lib.ListN.{length};
+ghost use Rattle.exports_marks.specs.Put.{putAt};
+ghost use Rattle.exports_marks.specs.Tells.{entryNumbers, allEntries};
+
+// A number by age, and an entry, from a place on.
+fn put_entry(age: u8, entry: Entry, at: usize, out: &mut [usize])
+    requires { ⌜ at + 4 ≤ length (now out) ⌝ }
+    ensures { λ _. ⌜ now (out .exit) ≡ putAt (now (out .entry)) at (entryNumbers age entry) ⌝ }
+{
+    out[at] = age as usize;
+    out[at + 1] = entry.x as usize;
+    out[at + 2] = entry.y as usize;
+    out[at + 3] = entry.px as usize;
+}
+
+// All 251 places of a table.
+pub fn put_entries(table: Table, out: &mut [usize])
+    requires { ⌜ 1004 ≤ length (now out) ⌝ }
+    ensures { λ _. ⌜ now (out .exit) ≡ allEntries table (now (out .entry)) ⌝ }
+{
+    let mut k: usize = 0;
+    while k < 251 {
+        let age = table.age[k];
+        let entry = table.entries[k];
+        put_entry(age, entry, k * 4, out);
+        k += 1;
+    }
+}
+
+// How many entries and how many stones there are.
+pub fn put_counts(entries: usize, stones: usize, out: &mut [usize])
+    requires { ⌜ 1006 ≤ length (now out) ⌝ }
+    ensures { λ _. ⌜ now (out .exit) ≡ putAt (now (out .entry)) 1004 (entries ∷ stones ∷ []) ⌝ }
+{
+    out[1004] = entries;
+    out[1005] = stones;
+}
