@@ -9,6 +9,7 @@ mod random;
 mod report;
 mod runs;
 mod speed;
+mod turns;
 
 use std::process::exit;
 
