@@ -25,13 +25,16 @@ fn is_near(run: usize, should: usize, err: usize) -> bool
     run <= should + err
 }
 
-// Whether the runs are near 1, 1, 3, 1, 1 times their average.
+// Whether the runs are near 1, 1, 3, 1, 1 times their average. The middle one is tested first: it is the one that fails most often.
 pub fn is_mark_like(runs: [usize; 5]) -> bool
     requires { ⌜ Short runs ⌝ }
     ensures { λ r. ⌜ r ≡ markLike runs ⌝ }
 {
     let avg = average_of(runs);
     let err = avg * 3 / 4;
+    if !is_near(runs[2], 3 * avg, err) {
+        return false;
+    }
     let mut i: usize = 0;
     while i < 5 {
         if !is_near(runs[i], CHECK[i] * avg, err) {
