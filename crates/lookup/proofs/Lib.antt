@@ -1,0 +1,2 @@
+mod Element
+pub mod Left
