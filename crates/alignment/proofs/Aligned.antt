@@ -1,11 +1,12 @@
 -- What claiming the alignment pattern asks and gives: the point is the leftmost of its piece, and all is determined. Assumes nothing.
-use Prim.Native.Nat.{ℕ, _^_, _<_}
+use Prim.Native.Nat.{ℕ, _^_, _≤_, _<_}
 use native.Mathlib.Omega.{arith}
 use mathlib.Core.Path.{_≡_, sym, ap, _∙_}
 use mathlib.Core.List.{List}
-use lib.IntN.{pos, natAbs}
+use lib.Dec.{lit<}
+use lib.IntN.{ℤ, pos, natAbs}
 use lib.ListN.{length}
-use Rattle.points.specs.Range.{Within}
+use Rattle.points.specs.Range.{Inside, Within}
 use Rattle.points.specs.declared.Point.{Point}
 use Rattle.picture.specs.Sides.{Roomy}
 use Rattle.pieces.specs.Picture.{px}
@@ -22,6 +23,7 @@ use Rattle.corners.specs.Rows.{Sides, pointAt, byEnds}
 use Rattle.corners.specs.Scores.{Direction, leftOf}
 use Rattle.corners.specs.Finders.{leftMostFrom, leftMostSees}
 use Rattle.corners.proofs.Farthest.{left-most-farthest, highest-within}
+use Rattle.corners.proofs.Signed.{back, is-own, is-back}
 use Rattle.corners.proofs.Small.{point-within}
 use Rattle.alignment.specs.Visit.{placeOf}
 use Rattle.alignment.specs.Pattern.{Claimable, Aligns}
@@ -29,6 +31,13 @@ use Rattle.alignment.specs.declared.visit.Place.the-variants.{Pixel}
 use Rattle.alignment.proofs.Places.{pixel-in, on-picture}
 use Rattle.alignment.proofs.Kept.{SameWhite, paint-white}
 use Rattle.alignment.proofs.Sighted.{Sighted}
+
+-- a pixel's coordinate has a size that `unsigned_abs` takes, as a search looks for it
+pub inside-low : (z : ℤ) → Inside z → natAbs (back z) < 2 ^ 31
+inside-low z I =
+    let h = I .low in
+    let low : natAbs z ≤ 799 = rw (I .is) (omega arith) in
+    rw (is-back (is-own low (lit< tt))) (omega (arith, low))
 
 -- the point that a place has as a pixel
 point-is : (w h : ℕ) (at : Point) (x y : ℕ) → placeOf w h at ≡ Pixel x y → at ≡ pointAt x y
@@ -47,12 +56,6 @@ module _ {p : List ℕ} {w h lent : ℕ} {at hd : Point} (C : Claimable p w h le
 
   pub line-is : natAbs (at .y) ≡ C .y
   line-is = ap natAbs (on .1)
-
-  pub column-low : natAbs (at .x) < 2 ^ 31
-  column-low = omega (arith, column-is, on .2, C .roomy .sized .wide)
-
-  pub line-low : natAbs (at .y) < 2 ^ 31
-  line-low = omega (arith, line-is, on .3, C .roomy .sized .tall)
 
   pub place-within : Within at
   place-within = rw (point-is w h at (C .x) (C .y) (C .place)) (point-within (omega (arith, on .2, C .roomy .sized .wide)) (omega (arith, on .3, C .roomy .sized .tall)))

@@ -8,3 +8,4 @@ pub mod Sighted
 pub mod Determined
 pub mod Aligned
 pub mod Areas
+pub mod Legs

@@ -18,7 +18,7 @@ line-from-requires c κs = search needs
 side-of-requires : tie.Need-side-of-requires
 side-of-requires c κs =
     let s = c .before .pre in
-    (s .0, (subst Direction (sym (c .line-from .ensures)) (way-direction (s .0) (s .1 .1)), s .1 .0))
+    (s .0, (subst Direction (sym (c .line-from .ensures)) (way-direction (s .0) (s .1 .1)), search needs))
 
 -- the side, as the code reads it
 side : (c : tie.After-side-of) → let a = c .before .before .args in toZ w32 (ofZ w32 (c .side-of .result)) ≡ sideOf (a .seed) (lineFrom (a .seed) (a .c)) (a .a)

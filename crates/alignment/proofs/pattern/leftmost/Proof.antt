@@ -5,7 +5,7 @@ use mir.Syntax.{w32}
 use mir.Val.{toZ, ofZ}
 use borrow.Author.Needs.{needs}
 use Rattle.corners.proofs.Small.{left-most-ready}
-use Rattle.alignment.proofs.Aligned.{column-low, line-low, place-within, both-sides, claim-fills, claim-place}
+use Rattle.alignment.proofs.Aligned.{inside-low, place-within, both-sides, claim-fills, claim-place}
 use Rattle.alignment.proofs.pattern.leftmost.Statement.{statement}
 use Rattle.alignment.proofs.pattern.leftmost.Tie as tie
 
@@ -17,13 +17,13 @@ module _ (s : tie.Start) where
   y = search needs
 
 unsigned-abs-requires : tie.Need-unsigned-abs-requires
-unsigned-abs-requires c κs = let s = c .before .before .before in rw (x s) (column-low (s .pre))
+unsigned-abs-requires c κs = let W = place-within (c .before .before .before .pre) in search (needs, inside-low)
 
 cast-x : tie.Need-cast-x
 cast-x c = search needs
 
 unsigned-abs-requires-2 : tie.Need-unsigned-abs-requires-2
-unsigned-abs-requires-2 c κs = let s = c .before .before .before .before .before in rw (y s) (line-low (s .pre))
+unsigned-abs-requires-2 c κs = let W = place-within (c .before .before .before .before .before .pre) in search (needs, inside-low)
 
 cast-y : tie.Need-cast-y
 cast-y c = search needs
