@@ -20,7 +20,7 @@ abbrev pub meaning : Estimate → Finding ℕ
 meaning (Size n) = found n
 meaning (Refused why) = refusedBy why
 
--- the area of the parallelogram that the ways from the seed to a and to c span
+-- the area of the parallelogram that the ways from the seed to a and to c span; the formula is the Rust's
 unfoldable pub areaOf : Point → Point → Point → ℕ
 areaOf seed a c = natAbs ((a .x -ℤ seed .x) *ℤ negℤ (c .y -ℤ seed .y) +ℤ (a .y -ℤ seed .y) *ℤ (c .x -ℤ seed .x))
 
@@ -28,6 +28,7 @@ areaOf seed a c = natAbs ((a .x -ℤ seed .x) *ℤ negℤ (c .y -ℤ seed .y) +�
 abbrev pub largeTest : ℕ → Test
 largeTest size = refusal.Far when ltb farthest size
 
+-- the area is the estimate, unless it is too large
 unfoldable pub estimateBy : Point → Point → Point → Finding ℕ
 estimateBy seed a c = first (largeTest (areaOf seed a c) ∷ []) (found (areaOf seed a c))
 
@@ -45,5 +46,6 @@ cornerDown c0 seed = let p = unmapped c0 seed in statedAt c0 (p .u) (p .v ⊕ on
 unfoldable pub cornerRight : Perspective → Point → Finding Point
 cornerRight c2 seed = let p = unmapped c2 seed in statedAt c2 (p .u ⊕ one) (p .v)
 
+-- the estimate from the seed, by the perspectives of the first and the third stone
 unfoldable pub estimateOf : Perspective → Perspective → Point → Finding ℕ
 estimateOf c0 c2 seed = estimateBetween seed (cornerDown c0 seed) (cornerRight c2 seed)

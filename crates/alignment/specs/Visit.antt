@@ -24,6 +24,7 @@ placeAt w h (pos x) (pos y) = cond (ltb x w && ltb y h) (Pixel x y) Beside
 placeAt w h (pos x) (negsuc y) = Beside
 placeAt w h (negsuc x) z = Beside
 
+-- the same, for a point
 abbrev pub placeOf : ℕ → ℕ → Point → Place
 placeOf w h at = placeAt w h (at .x) (at .y)
 
