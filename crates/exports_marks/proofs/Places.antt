@@ -1,13 +1,17 @@
 -- Values stored place by place are put one behind the other, and those of a thing after the other. Assumes nothing.
-use Prim.Native.Nat.{ℕ, zero, suc, _+_, _-_, _*_, _≤_, _<_}
+use Prim.Native.Nat.{ℕ, suc, _+_, _-_, _*_, _≤_, _<_}
 use native.Mathlib.Omega.{arith}
 use native.Mathlib.Numerals.{add-one, unary-clauses}
-use mathlib.Core.Path.{_≡_, refl, _∙_}
+use mathlib.Core.Path.{_≡_, refl}
 use mathlib.Core.List.{List, [], _∷_}
-use lib.ListN.{length, set, length-set}
+use lib.ListN.{set}
 use Rattle.exports_marks.specs.Put.{putAt, putEach}
 
 module _ {A : Type 0} where
+  pub put-two : (s : List A) (at : ℕ) (a b : A) → set (set s at a) (at + 1) b ≡ putAt s at (a ∷ b ∷ [])
+  unfolding putAt
+  put-two s at a b = simp unary-clauses refl
+
   pub put-four : (s : List A) (at : ℕ) (a b c d : A) → set (set (set (set s at a) (at + 1) b) (at + 2) c) (at + 3) d ≡ putAt s at (a ∷ b ∷ c ∷ d ∷ [])
   unfolding putAt
   put-four s at a b c d = simp unary-clauses refl
@@ -22,12 +26,6 @@ module _ {A : Type 0} where
       ≡ putAt s at (a ∷ b ∷ c ∷ d ∷ e ∷ f ∷ g ∷ h ∷ i ∷ j ∷ [])
   unfolding putAt
   put-ten s at a b c d e f g h i j = simp unary-clauses refl
-
-  -- the slice keeps its length
-  pub put-length : (s : List A) (at : ℕ) (vs : List A) → length (putAt s at vs) ≡ length s
-  unfolding putAt
-  put-length s at [] = refl
-  put-length s at (v ∷ vs) = put-length (set s at v) (suc at) vs ∙ length-set s at v
 
   module _ (values : ℕ → List A) (size n k : ℕ) (s : List A) where
     pub each-next : k < n → putEach values size (n - k) k s ≡ putEach values size (n - (k + 1)) (k + 1) (putAt s (k * size) (values k))

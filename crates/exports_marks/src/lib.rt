@@ -10,7 +10,6 @@ use marks::search_bitmap;
 use picture::Verdict;
 use refusals::number_of;
 ghost use mathlib.Core.Path.{_≡_};
-ghost use Prim.Native.Nat.{_≤_};
 ghost use lib.ListN.{length};
 ghost use Rattle.exports_marks.specs.Tells.{statusOf, Tells};
 

@@ -1,8 +1,7 @@
 // The run test: whether five runs of a line, dark and light by turns, look like a cut through a finder mark (detect.rs, `test_for_capstone`).
 ghost use mathlib.Core.Path.{_≡_};
 ghost use Prim.Native.Nat.{_≤_, _*_};
-ghost use lib.ListN.{getD};
-ghost use Rattle.runs.specs.Mark.{Short, average, error, near, markLike};
+ghost use Rattle.runs.specs.Mark.{Short, average, near, markLike};
 
 // How many times the average each run of a mark is.
 const CHECK: [usize; 5] = [1, 1, 3, 1, 1];

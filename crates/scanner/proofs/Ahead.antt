@@ -2,16 +2,15 @@
 use Prim.Native.Nat.{ℕ, zero, suc, _+_, _-_, _≤_, _<_, zero-le}
 use native.Mathlib.Omega.{arith}
 use native.Mathlib.Numerals.{add-one}
-use mathlib.Core.Path.{_≡_, refl, sym, ap, _∙_}
+use mathlib.Core.Path.{_≡_, refl, sym, ap}
 use mathlib.Core.Bool.{Bool, true, false, not, cond, _&&_, Bool·beq, true≢false}
 use mathlib.Core.List.{List, [], _∷_, _++_}
-use lib.Dec.{leb, ltb, lit<, lit≤}
+use lib.Dec.{leb, lit<, lit≤}
 use lib.ListN.{drop}
 use borrow.Author.Tests.{lt-ltb, le-ltb, le-leb}
 use Rattle.scanner.specs.Edges.{dark, runEnd, edgesFrom, edgesAfter}
 use Rattle.scanner.specs.Cuts.{isCut, position, cutAt, cuts, lineCuts}
 use Rattle.scanner.specs.Scan.{begun, passed, remembered, ahead, OnLine}
-use Rattle.scanner.specs.declared.LinePosition.{LinePosition}
 use Rattle.scanner.specs.declared.LineScanner.{LineScanner}
 
 module _ (p : List ℕ) (base : ℕ) where

@@ -1,9 +1,8 @@
 -- A scan sees white and not white alone: whatever paint stands on a line, the same is ahead. Assumes nothing.
-use Prim.Native.Nat.{ℕ, zero, suc, _+_, _-_}
-use mathlib.Core.Path.{_≡_, refl, ap}
-use mathlib.Core.Bool.{Bool, true, false, not, cond, Bool·beq}
+use Prim.Native.Nat.{ℕ, zero, suc, _-_}
+use mathlib.Core.Path.{_≡_, refl}
+use mathlib.Core.Bool.{Bool, not}
 use mathlib.Core.List.{List, [], _∷_, _++_}
-use lib.Dec.{ltb}
 use Rattle.scanner.specs.Edges.{dark, edgesFrom, edgesAfter}
 use Rattle.scanner.specs.Cuts.{cutAt, cuts, lineCuts}
 use Rattle.scanner.specs.Scan.{ahead, remembered}

@@ -1,5 +1,5 @@
 -- `elmetzhur_capstones` searches once there are places for what it tells, and tells it. Assumes nothing.
-use mathlib.Core.Path.{_≡_, refl, ap, _∙_}
+use mathlib.Core.Path.{refl, ap, _∙_}
 use mathlib.Core.List.{List, [], _∷_}
 use mathlib.Core.Logic.{inl, inr}
 use Prim.Native.Nat.{ℕ}

@@ -1,10 +1,10 @@
 -- `is_mark_like` tests the middle run, then run after run, and ends at the first that is not near. Assumes nothing.
-use Prim.Native.Nat.{ℕ, _-_, _≤_, zero-le}
+use Prim.Native.Nat.{_-_, _≤_, zero-le}
 use mathlib.Core.Path.{_≡_, refl, sym, _∙_}
 use mathlib.Core.Bool.{true}
 use native.Mathlib.Omega.{arith}
 use borrow.Author.Tests.{not-true, not-false}
-use Rattle.runs.specs.Mark.{average, allNear, markLike}
+use Rattle.runs.specs.Mark.{allNear, markLike}
 use Rattle.runs.proofs.Shares.{share-of, one-more, one-off}
 use Rattle.runs.proofs.is_mark_like.Statement.{statement}
 use Rattle.runs.proofs.is_mark_like.Tie as tie

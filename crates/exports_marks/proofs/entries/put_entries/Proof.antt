@@ -1,12 +1,12 @@
 -- `put_entries` writes a table's places one after the other. Assumes nothing.
-use Prim.Native.Nat.{ℕ, _-_, _≤_}
+use Prim.Native.Nat.{_-_, _≤_}
 use native.Mathlib.Omega.{arith}
 use mathlib.Core.Path.{_≡_, refl, sym, _∙_}
 use lib.ListN.{length}
 use borrow.Author.Needs.{needs}
 use Rattle.exports_marks.specs.Put.{putEach}
 use Rattle.exports_marks.specs.Tells.{tableNumbers}
-use Rattle.exports_marks.proofs.Places.{put-length, each-next, each-last}
+use Rattle.exports_marks.proofs.Places.{each-next, each-last}
 use Rattle.exports_marks.proofs.entries.put_entries.Statement.{statement}
 use Rattle.exports_marks.proofs.entries.put_entries.Tie as tie
 

@@ -6,7 +6,7 @@ use lib.ListN.{length}
 use borrow.Author.Needs.{needs}
 use Rattle.exports_marks.specs.Put.{putEach}
 use Rattle.exports_marks.specs.Tells.{placesOf, floatsOf, stoneAt, allPlaces, allFloats}
-use Rattle.exports_marks.proofs.Places.{put-length, each-next, each-last}
+use Rattle.exports_marks.proofs.Places.{each-next, each-last}
 use Rattle.exports_marks.proofs.stones.put_stones.Statement.{statement}
 use Rattle.exports_marks.proofs.stones.put_stones.Tie as tie
 

@@ -7,7 +7,7 @@ use mathlib.Core.List.{_∷_}
 use lib.Dec.{leb}
 use Rattle.scanner.specs.Edges.{dark, edgesAfter}
 use Rattle.scanner.specs.Cuts.{isCut, position}
-use Rattle.scanner.specs.Scan.{passed, ahead, OnLine, Comes, to-cut, to-end}
+use Rattle.scanner.specs.Scan.{passed, ahead, OnLine, to-cut, to-end}
 use Rattle.scanner.proofs.Ahead.{run-bounds, next-edge, by-edge, at-end, stays-on}
 use Rattle.scanner.proofs.LineScanner.advance.Statement.{statement}
 use Rattle.scanner.proofs.LineScanner.advance.Tie as tie
