@@ -1,2 +1,1 @@
-mod Element
 pub mod Left

@@ -1,7 +1,7 @@
 -- `lookup::look_up` meets its contract: a walk of its code, by hand. The borrow of the table is opened, and the table is copied out and handed to `regions::look_up`, with picture and stack at their own lifetimes.
 -- Of what comes back the newest entry, the age order and the count are stored. The law `newest-alone` says that no other entry differs, so the borrow is closed at the table that the lookup leaves. Assumes nothing.
 use mathlib.Core.Path.{_≡_, refl, sym, _∙_, ap}
-use Prim.Native.Nat.{ℕ, zero, suc, _<_, _^_, _*_, _+_}
+use Prim.Native.Nat.{ℕ, _<_, _^_, _*_, _+_}
 use native.Mathlib.Omega.{arith}
 use mathlib.Core.List.{[], _∷_, List, map}
 use lib.ListN.{length, set, length-map}
@@ -44,6 +44,8 @@ use denote.Triple.Spec.{Meets, tripleOf}
 use denote.Triple.Table.{entered, cited}
 use denote.Triple.Walked.{says, Stays, stay-ref, stay-none, gave-slice, walkOf, AllGo, goes-none, goes-ref, goes-gave-slice, Walks, ends-at, walked, walk-meets}
 use denote.Exit.{yes}
+use Rattle.walks.proofs.Element.{element}
+use Rattle.walks.proofs.Rows.{map-set}
 use Rattle.table.specs.Table.{entryOf}
 use Rattle.table.specs.declared.Entry.{Entry}
 use Rattle.table.specs.declared.Table.{Table}
@@ -64,7 +66,6 @@ use Rattle.regions.proofs.look_up.Symbol.{name as #regions·look-up}
 use Rattle.regions.proofs.look_up.Met as core-thm
 use Rattle.lookup.specs.Newest.{newestOf}
 use Rattle.lookup.specs.declared.Numbered.{Numbered}
-use Rattle.lookup.proofs.Element.{element}
 use Rattle.lookup.proofs.Left.{newest-alone}
 use Rattle.lookup.proofs.Numbered as N
 use Rattle.lookup.proofs.Numbered.Laws as N′
@@ -109,11 +110,6 @@ evs l = map (LL.tuple-val E.the-type E′.the-laws) (map (E.the-type .to) l)
 
 abbrev made : List Val → Table → Val
 made us u = vstruct (vcons (arrayVal us) (vcons (arrayVal (map (vint w8) (map (λ (k : ℕ). k) (u .age)))) (vcons (vint w64 (u .n)) vnil)))
-
-map-set : {A B : Type 0} (f : A → B) (l : List A) (i : ℕ) (a : A) → map f (set l i a) ≡ set (map f l) i (f a)
-map-set f [] i a = refl
-map-set f (x ∷ l) zero a = refl
-map-set f (x ∷ l) (suc i) a = ap (λ (m : List _). f x ∷ m) (map-set f l i a)
 
 abbrev ev : Entry → Val
 ev = LL.val E.the-type E′.the-laws
