@@ -15,11 +15,11 @@ abbrev μ-loop : tie.MeasureT-loop
 loop-holds : tie.Need-loop-holds Inv-loop μ-loop
 loop-holds c = search needs
 
-mul-look-up : tie.Need-mul-look-up Inv-loop μ-loop
-mul-look-up c = search needs
+mul-look-at : tie.Need-mul-look-at Inv-loop μ-loop
+mul-look-at c = search needs
 
-look-up-requires : tie.Need-look-up-requires Inv-loop μ-loop
-look-up-requires c κs = search needs
+look-at-requires : tie.Need-look-at-requires Inv-loop μ-loop
+look-at-requires c κs = search needs
 
 add-k : tie.Need-add-k Inv-loop μ-loop
 add-k c = search needs
@@ -46,8 +46,8 @@ look-along-spec =
     Inv-loop
     μ-loop
     loop-holds
-    mul-look-up
-    look-up-requires
+    mul-look-at
+    look-at-requires
     add-k
     loop-less
     loop-again
