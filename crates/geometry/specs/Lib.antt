@@ -1,4 +1,3 @@
 pub mod Create
 pub mod Map
 pub mod Unmap
-pub mod Change

@@ -1,7 +1,6 @@
 // Perspectives: from a grid to the picture that shows it, and back (geometry.rs).
 use points::Point;
 
-mod change;
 mod create;
 mod map;
 mod unmap;

@@ -4,7 +4,7 @@ use mathlib.Core.Bool.{cond}
 use lib.Dec.{eqb}
 use lib.Ieee.{Float}
 use Rattle.floats.specs.Float64.{_⊗_}
-use Rattle.geometry.specs.Change.{coefficient, raised, lowered}
+use Rattle.changes.specs.Change.{coefficient, raised, lowered}
 use Rattle.geometry.specs.declared.Perspective.{Perspective}
 use Rattle.fitness.specs.Seen.{ratio}
 

@@ -1,6 +1,9 @@
 // Adjustments: one for each coefficient of a perspective, and so held as one.
 ghost use mathlib.Core.Path.{_≡_};
 ghost use Rattle.refine.specs.Adjust.{scaled, adjusted};
+use changes::coefficient;
+use changes::lower;
+use changes::raise;
 use geometry::Perspective;
 
 // Each coefficient times k.
@@ -23,9 +26,9 @@ pub fn scaled(p: Perspective, k: f64) -> Perspective
 pub fn adjusted(steps: Perspective, c: Perspective, i: usize) -> Perspective
     ensures { λ r. ⌜ r ≡ adjusted steps c i ⌝ }
 {
-    let step = steps.coefficient(i / 2);
+    let step = coefficient(steps, i / 2);
     if i % 2 == 0 {
-        return c.lower(i / 2, step);
+        return lower(c, i / 2, step);
     }
-    c.raise(i / 2, step)
+    raise(c, i / 2, step)
 }

@@ -1,8 +1,8 @@
 -- `lower` is `with` of one coefficient and one rounded step. Assumes nothing.
-use Rattle.geometry.specs.Change.{lowered}
+use Rattle.changes.specs.Change.{lowered}
 use borrow.Author.Needs.{needs}
-use Rattle.geometry.proofs.Perspective.lower.Statement.{statement}
-use Rattle.geometry.proofs.Perspective.lower.Tie as tie
+use Rattle.changes.proofs.lower.Statement.{statement}
+use Rattle.changes.proofs.lower.Tie as tie
 
 coefficient-requires : tie.Need-coefficient-requires
 coefficient-requires c κs = search needs

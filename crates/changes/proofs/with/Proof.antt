@@ -1,8 +1,8 @@
 -- `with` writes the one coefficient that it is asked for, arm by arm. Assumes nothing.
 use borrow.Author.Tests.{ne-eqb}
-use Rattle.geometry.specs.Change.{replaced}
-use Rattle.geometry.proofs.Perspective.with.Statement.{statement}
-use Rattle.geometry.proofs.Perspective.with.Tie as tie
+use Rattle.changes.specs.Change.{replaced}
+use Rattle.changes.proofs.with.Statement.{statement}
+use Rattle.changes.proofs.with.Tie as tie
 
 returns : tie.Need-returns
 unfolding replaced

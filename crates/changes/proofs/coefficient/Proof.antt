@@ -1,8 +1,8 @@
 -- `coefficient` reads the coefficient that it is asked for, arm by arm. Assumes nothing.
 use borrow.Author.Tests.{ne-eqb}
-use Rattle.geometry.specs.Change.{coefficient}
-use Rattle.geometry.proofs.Perspective.coefficient.Statement.{statement}
-use Rattle.geometry.proofs.Perspective.coefficient.Tie as tie
+use Rattle.changes.specs.Change.{coefficient}
+use Rattle.changes.proofs.coefficient.Statement.{statement}
+use Rattle.changes.proofs.coefficient.Tie as tie
 
 returns : tie.Need-returns
 unfolding coefficient

@@ -1,8 +1,8 @@
 -- `raise` is `with` of one coefficient and one rounded step. Assumes nothing.
-use Rattle.geometry.specs.Change.{raised}
+use Rattle.changes.specs.Change.{raised}
 use borrow.Author.Needs.{needs}
-use Rattle.geometry.proofs.Perspective.raise.Statement.{statement}
-use Rattle.geometry.proofs.Perspective.raise.Tie as tie
+use Rattle.changes.proofs.raise.Statement.{statement}
+use Rattle.changes.proofs.raise.Tie as tie
 
 coefficient-requires : tie.Need-coefficient-requires
 coefficient-requires c κs = search needs
