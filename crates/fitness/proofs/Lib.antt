@@ -1,7 +1,4 @@
-pub mod Sums
-pub mod Dark
-pub mod Decimals
+pub mod Totals
 pub mod Shapes
 pub mod White
 pub mod Order
-pub mod Determined

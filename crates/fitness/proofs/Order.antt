@@ -10,10 +10,11 @@ use Rattle.geometry.specs.Map.{mapped}
 use Rattle.geometry.specs.declared.Perspective.{Perspective}
 use Rattle.geometry.proofs.Placed.{mapped-refused}
 use Rattle.fitness.specs.Expected.{Shade, dark, light, Expected}
-use Rattle.fitness.specs.Score.{_⊞_, opposite, weighed, total}
-use Rattle.fitness.specs.Seen.{darkIn, pointOf, lineOf, cellOf}
+use Rattle.cell_fitness.specs.Score.{_⊞_, opposite}
+use Rattle.fitness.specs.Total.{weighed, total}
+use Rattle.cell_fitness.specs.Seen.{darkIn, pointOf, lineOf, cellOf}
 use Rattle.fitness.specs.Fitness.{scoreOf}
-use Rattle.fitness.proofs.Sums.{total-append}
+use Rattle.fitness.proofs.Totals.{total-append}
 
 -- a refusal is 13
 pub record Unplaced13 (f : Finding ℤ) : Type 0 where

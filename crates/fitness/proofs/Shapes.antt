@@ -6,11 +6,13 @@ use lib.IntN.{ℤ}
 use Rattle.refusals.specs.Finding.{Finding}
 use Rattle.geometry.specs.declared.Perspective.{Perspective}
 use Rattle.version_db.specs.AnnexE.{versionOf}
+use Rattle.cell_fitness.specs.Score.{_⊞_, opposite}
+use Rattle.cell_fitness.specs.Seen.{cellOf}
 use Rattle.fitness.specs.Expected.{Expected, dark, light, timing, sides, ring, mark, pattern, edges, columns, expected}
-use Rattle.fitness.specs.Score.{_⊞_, opposite, total}
-use Rattle.fitness.specs.Seen.{cellOf}
+use Rattle.fitness.specs.Total.{total}
 use Rattle.fitness.specs.Fitness.{scoreOf}
-use Rattle.fitness.proofs.Sums.{plus-assoc, opposite-plus, each-opposite, score-cons, scores-append}
+use Rattle.cell_fitness.proofs.Sums.{plus-assoc, opposite-plus}
+use Rattle.fitness.proofs.Totals.{each-opposite, score-cons, scores-append}
 
 sides-opposite : (seen : ℕ → ℕ → Finding ℤ) (x y r i : ℕ) → total seen (sides light x y r i) ≡ opposite (total seen (sides dark x y r i))
 unfolding total opposite

@@ -12,10 +12,10 @@ use Rattle.geometry.specs.declared.Perspective.{Perspective}
 use Rattle.pieces.specs.Picture.{px}
 use Rattle.pieces.proofs.Numbers.{split, same}
 use Rattle.fitness.specs.Expected.{Expected, expected}
-use Rattle.fitness.specs.Score.{total}
-use Rattle.fitness.specs.Seen.{darkAt, darkIn, pointOf, lineOf, cellOf}
+use Rattle.fitness.specs.Total.{total}
+use Rattle.cell_fitness.specs.Seen.{darkAt, darkIn, pointOf, lineOf, cellOf}
 use Rattle.fitness.specs.Fitness.{SameWhite, scoreOf, fitnessOf}
-use Rattle.fitness.proofs.Dark.{dark-behind, dark-below, dark-white, dark-coloured}
+use Rattle.cell_fitness.proofs.Dark.{dark-behind, dark-below, dark-white, dark-coloured}
 
 -- cells that are seen alike score alike
 total-alike : (f g : ℕ → ℕ → Finding ℤ) → ((x y : ℕ) → f x y ≡ g x y) → (es : List Expected) → total f es ≡ total g es

@@ -4,25 +4,12 @@ use mathlib.Core.Path.{_≡_}
 use mathlib.Core.List.{List}
 use mathlib.Core.Logic.{_↔_}
 use lib.IntN.{ℤ}
-use Rattle.refusals.specs.Finding.{Finding, found, refusedBy}
-use Rattle.refusals.specs.declared.Refusal.the-variants as refusal
+use Rattle.refusals.specs.Finding.{Finding}
 use Rattle.geometry.specs.declared.Perspective.{Perspective}
 use Rattle.pieces.specs.Picture.{px}
 use Rattle.fitness.specs.Expected.{Expected, expected}
-use Rattle.fitness.specs.Score.{total, extent}
-use Rattle.fitness.specs.Seen.{cellOf}
-use Rattle.fitness.specs.declared.Fitness.{Fitness}
-use Rattle.fitness.specs.declared.Fitness.the-variants.{Score, Unplaced}
-
--- an answer in document 01's terms: a score, or 13
-abbrev pub meaning : Fitness → Finding ℤ
-meaning (Score z) = found z
-meaning Unplaced = refusedBy refusal.Unplaced
-
--- an answer means a score, which is no further from 0 than a bound
-pub record Scores (score : Finding ℤ) (most : ℕ) (r : Fitness) : Type 0 where
-  pub is : meaning r ≡ score
-  pub small : extent (meaning r) ≤ most
+use Rattle.fitness.specs.Total.{total}
+use Rattle.cell_fitness.specs.Seen.{cellOf}
 
 -- a grid has so many cells along a side: version 0, which is none, to 40
 pub record GridSize (size : ℕ) : Type 0 where

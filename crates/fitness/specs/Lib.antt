@@ -1,4 +1,3 @@
 pub mod Expected
-pub mod Score
-pub mod Seen
+pub mod Total
 pub mod Fitness

@@ -5,9 +5,10 @@ ghost use lib.ListN.{length};
 ghost use Rattle.picture.specs.Sides.{Sized};
 ghost use Rattle.version_db.specs.AnnexE.{countOf, positionOf};
 ghost use Rattle.fitness.specs.Expected.{edge, edges, column, columns};
-ghost use Rattle.fitness.specs.Fitness.{Scores, Amid, scoreOf};
-use crate::Fitness;
+ghost use Rattle.cell_fitness.specs.Scores.{Scores};
+ghost use Rattle.fitness.specs.Fitness.{Amid, scoreOf};
 use crate::rings::fitness_apat;
+use cell_fitness::Fitness;
 use geometry::Perspective;
 
 // How many alignment positions a version has (ISO/IEC 18004, Annex E).

@@ -1,20 +1,14 @@
 // How well a perspective fits a grid (identify/grid.rs, `fitness_all`): the cells that each symbol of the size shows dark or light are looked at where the perspective has them.
 mod alignment;
-mod cell;
 mod rings;
-mod sum;
 mod timing;
 
 ghost use lib.ListN.{length};
 ghost use Rattle.picture.specs.Sides.{Sized};
-ghost use Rattle.fitness.specs.Fitness.{GridSize, Scores, fitnessOf};
+ghost use Rattle.fitness.specs.Fitness.{GridSize, fitnessOf};
+ghost use Rattle.cell_fitness.specs.Scores.{Scores};
+use cell_fitness::Fitness;
 use geometry::Perspective;
-
-// A fitness: a score, or a point that lies nowhere (refusal 13).
-pub enum Fitness {
-    Score(i32),
-    Unplaced,
-}
 
 // The fitness of a perspective for a grid with so many cells along a side.
 pub fn fitness_all(pic: &[u8], width: usize, height: usize, c: Perspective, size: usize) -> Fitness

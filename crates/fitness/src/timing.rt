@@ -3,9 +3,10 @@ ghost use Prim.Native.Nat.{_+_, _<_};
 ghost use lib.ListN.{length};
 ghost use Rattle.picture.specs.Sides.{Sized};
 ghost use Rattle.fitness.specs.Expected.{crossing, timing};
-ghost use Rattle.fitness.specs.Fitness.{Scores, GridSize, scoreOf};
-use crate::Fitness;
-use crate::cell::fitness_cell;
+ghost use Rattle.cell_fitness.specs.Scores.{Scores};
+ghost use Rattle.fitness.specs.Fitness.{GridSize, scoreOf};
+use cell_fitness::Fitness;
+use cell_fitness::cell::fitness_cell;
 use geometry::Perspective;
 
 // Place k of both lines.

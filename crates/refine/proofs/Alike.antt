@@ -5,7 +5,7 @@ use mathlib.Core.List.{List}
 use lib.IntN.{ℤ}
 use Rattle.refusals.specs.Finding.{Finding, found, refused}
 use Rattle.geometry.specs.declared.Perspective.{Perspective}
-use Rattle.fitness.specs.Seen.{ratio}
+use Rattle.cell_fitness.specs.Seen.{ratio}
 use Rattle.fitness.specs.Fitness.{SameWhite, fitnessOf}
 use Rattle.fitness.proofs.White.{fitness-white}
 use Rattle.refine.specs.Adjust.{scaled, adjustments, adjusted}

@@ -8,7 +8,7 @@ use lib.IntN.{ℤ, pos, negsuc}
 use lib.Signed.{ltZ, _<ℤ_, _≤ℤ_, ltZ-yes, ltZ-no, ≤ℤ-refl, <ℤ-≤ℤ-trans}
 use Rattle.refusals.specs.Finding.{Finding, found, refused}
 use Rattle.geometry.specs.declared.Perspective.{Perspective}
-use Rattle.fitness.specs.Seen.{ratio}
+use Rattle.cell_fitness.specs.Seen.{ratio}
 use Rattle.refine.specs.Adjust.{scaled, adjustments, adjusted}
 use Rattle.refine.specs.Refine.{scored, better, judged, trial, trials, passes, refined}
 use Rattle.refine.specs.declared.Refined.{Refined}

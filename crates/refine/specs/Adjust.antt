@@ -6,7 +6,7 @@ use lib.Ieee.{Float}
 use Rattle.floats.specs.Float64.{_⊗_}
 use Rattle.changes.specs.Change.{coefficient, raised, lowered}
 use Rattle.geometry.specs.declared.Perspective.{Perspective}
-use Rattle.fitness.specs.Seen.{ratio}
+use Rattle.cell_fitness.specs.Seen.{ratio}
 
 -- each coefficient times k
 unfoldable pub scaled : Perspective → Float → Perspective

@@ -7,7 +7,7 @@ use lib.Signed.{ltZ}
 use Rattle.refusals.specs.Finding.{Finding, found, refused, refusedBy}
 use Rattle.refusals.specs.declared.Refusal.the-variants as refusal
 use Rattle.geometry.specs.declared.Perspective.{Perspective}
-use Rattle.fitness.specs.Seen.{ratio}
+use Rattle.cell_fitness.specs.Seen.{ratio}
 use Rattle.fitness.specs.Fitness.{fitnessOf}
 use Rattle.refine.specs.Adjust.{scaled, adjustments, adjusted}
 use Rattle.refine.specs.declared.Refined.{Refined}

@@ -4,13 +4,13 @@ ghost use Prim.Native.Nat.{_<_};
 ghost use lib.ListN.{length};
 ghost use Rattle.refusals.specs.Finding.{found};
 ghost use Rattle.picture.specs.Sides.{Sized};
-ghost use Rattle.fitness.specs.Fitness as fit;
+ghost use Rattle.cell_fitness.specs.Scores as fit;
 ghost use Rattle.fitness.specs.Fitness.{GridSize, fitnessOf};
 ghost use Rattle.refine.specs.Refine.{meaning, scored, better, judged, trial, trials};
 use crate::Refined;
 use crate::Refinement;
 use crate::adjust;
-use fitness::Fitness;
+use cell_fitness::Fitness;
 use geometry::Perspective;
 
 // A perspective with its score.

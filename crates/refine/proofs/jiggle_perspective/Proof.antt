@@ -4,7 +4,7 @@ use native.Mathlib.Numerals.{add-one}
 use native.Mathlib.Omega.{arith}
 use mathlib.Core.Path.{_≡_, refl}
 use Rattle.fitness.specs.Fitness.{fitnessOf}
-use Rattle.fitness.proofs.Decimals.{five-tenths}
+use Rattle.cell_fitness.proofs.Decimals.{five-tenths}
 use Rattle.refine.specs.Adjust.{adjustments}
 use Rattle.refine.specs.Refine.{meaning, passes, refined}
 use Rattle.refine.proofs.Steps.{two-hundredths}

@@ -4,8 +4,9 @@ use native.Mathlib.Omega.{arith}
 use mathlib.Core.Path.{_≡_}
 use Rattle.version_db.specs.AnnexE.{countOf, positionOf}
 use Rattle.fitness.specs.Expected.{each, pattern, column}
-use Rattle.fitness.specs.Fitness.{Scores, scoreOf}
-use Rattle.fitness.proofs.Sums.{no-turns, one-more}
+use Rattle.cell_fitness.specs.Scores.{Scores}
+use Rattle.fitness.specs.Fitness.{scoreOf}
+use Rattle.fitness.proofs.Totals.{no-turns, one-more}
 use borrow.Author.Needs.{needs}
 use Rattle.fitness.proofs.alignment.fitness_column.Statement.{statement}
 use Rattle.fitness.proofs.alignment.fitness_column.Tie as tie

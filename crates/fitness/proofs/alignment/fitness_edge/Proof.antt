@@ -1,6 +1,6 @@
 -- `fitness_edge` adds up two patterns. Assumes nothing.
 use native.Mathlib.Omega.{arith}
-use Rattle.fitness.proofs.Sums.{scores-append}
+use Rattle.fitness.proofs.Totals.{scores-append}
 use borrow.Author.Needs.{needs}
 use Rattle.fitness.proofs.alignment.fitness_edge.Statement.{statement}
 use Rattle.fitness.proofs.alignment.fitness_edge.Tie as tie

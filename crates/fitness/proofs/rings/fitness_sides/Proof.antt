@@ -1,6 +1,6 @@
 -- `fitness_sides` adds up four cells, one on each side. Assumes nothing.
 use native.Mathlib.Omega.{arith}
-use Rattle.fitness.proofs.Sums.{score-four}
+use Rattle.fitness.proofs.Totals.{score-four}
 use borrow.Author.Needs.{needs}
 use Rattle.fitness.proofs.rings.fitness_sides.Statement.{statement}
 use Rattle.fitness.proofs.rings.fitness_sides.Tie as tie

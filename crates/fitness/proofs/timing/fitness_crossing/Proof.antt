@@ -2,7 +2,8 @@
 use native.Mathlib.Omega.{arith}
 use borrow.Author.Needs.{needs}
 use borrow.Author.Tests.{eq-eqb, ne-eqb}
-use Rattle.fitness.proofs.Sums.{opposite-plus, score-two}
+use Rattle.cell_fitness.proofs.Sums.{opposite-plus}
+use Rattle.fitness.proofs.Totals.{score-two}
 use Rattle.fitness.proofs.timing.fitness_crossing.Statement.{statement}
 use Rattle.fitness.proofs.timing.fitness_crossing.Tie as tie
 

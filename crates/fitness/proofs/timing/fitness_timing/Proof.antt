@@ -3,8 +3,9 @@ use Prim.Native.Nat.{_+_, _-_, _*_, _≤_}
 use native.Mathlib.Omega.{arith}
 use mathlib.Core.Path.{_≡_}
 use Rattle.fitness.specs.Expected.{each, crossing, timing}
-use Rattle.fitness.specs.Fitness.{Scores, scoreOf}
-use Rattle.fitness.proofs.Sums.{no-turns, one-more}
+use Rattle.cell_fitness.specs.Scores.{Scores}
+use Rattle.fitness.specs.Fitness.{scoreOf}
+use Rattle.fitness.proofs.Totals.{no-turns, one-more}
 use borrow.Author.Needs.{needs}
 use Rattle.fitness.proofs.timing.fitness_timing.Statement.{statement}
 use Rattle.fitness.proofs.timing.fitness_timing.Tie as tie

@@ -1,0 +1,4 @@
+pub mod Sums
+pub mod Dark
+pub mod Decimals
+pub mod Determined
