@@ -1,0 +1,2 @@
+pub mod Stones
+pub mod Keeps
