@@ -1,4 +1,4 @@
-mod Numbers
+pub mod Numbers
 mod Steps
 pub mod Feeding
 mod Whole
