@@ -19,8 +19,9 @@ use Rattle.geometry.specs.declared.Sight.{Sight}
 use Rattle.geometry.specs.declared.Sight.the-variants.{Made, Flat}
 use Rattle.version_db.specs.AnnexE.{versionOf}
 use Rattle.fitness.specs.Expected.{Shade, dark, light, Expected, cell, mark, timing, edges, columns, expected}
-use Rattle.fitness.specs.Score.{_⊞_, opposite, weighed, total}
-use Rattle.fitness.specs.Seen.{ratio, darkIn, pointOf, lineOf, cellOf}
+use Rattle.cell_fitness.specs.Score.{_⊞_, opposite}
+use Rattle.fitness.specs.Total.{weighed, total}
+use Rattle.cell_fitness.specs.Seen.{ratio, darkIn, pointOf, lineOf, cellOf}
 use Rattle.fitness.specs.Fitness.{scoreOf, fitnessOf}
 use Rattle.refine.specs.Adjust.{scaled, adjustments}
 use Rattle.refine.specs.Refine.{scored, trial, trials, passes, refined, refinedOf}
