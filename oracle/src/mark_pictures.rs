@@ -146,7 +146,7 @@ fn nested(r: &mut Random, width: usize, height: usize) -> Picture {
 }
 
 /// Small marks in rows and columns: where there is room for them, more than 64.
-pub fn many(r: &mut Random, width: usize, height: usize) -> Picture {
+fn many(r: &mut Random, width: usize, height: usize) -> Picture {
     let mut p = white("many marks", width, height);
     let (module, gap, missing) = (r.pick(&[1, 1, 1, 2]), r.between(1, 2), r.below(12) + 2);
     let step = 7 * module + gap;
@@ -156,6 +156,16 @@ pub fn many(r: &mut Random, width: usize, height: usize) -> Picture {
                 draw_mark(&mut p, x + r.between(0, gap - 1), y + r.between(0, gap - 1), module, module);
             }
         }
+    }
+    p
+}
+
+/// As many marks as there may be, in eight rows.
+pub fn full(width: usize, height: usize) -> Picture {
+    let mut p = white("64 marks", width, height);
+    let (across, down) = (width as i32 / 8, height as i32 / 8);
+    for k in 0..64 {
+        draw_mark(&mut p, k % 8 * across, k / 8 * down, across / 8, down / 8);
     }
     p
 }
@@ -179,7 +189,7 @@ fn tailed(r: &mut Random, width: usize, height: usize) -> Picture {
 }
 
 /// Noise, with stones in it that lie in a gap of their own, have a cut through them, and most of a ring around: rings of any shape.
-pub fn planted(r: &mut Random, width: usize, height: usize) -> Picture {
+fn planted(r: &mut Random, width: usize, height: usize) -> Picture {
     let black = r.below(50) + 5;
     let mut p = Picture::new("planted stones", width, height, |_, _| u8::from(r.below(100) < black));
     for _ in 0..r.below(3) + 1 {

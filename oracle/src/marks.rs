@@ -5,7 +5,7 @@ mod random;
 mod report;
 mod turns;
 
-use mark_pictures::{dashes, drawn, many};
+use mark_pictures::{dashes, drawn, full};
 use pictures::{nth, slate, Picture};
 use random::Random;
 use report::{unless_panic, Report};
@@ -256,7 +256,7 @@ fn measure(seed: u64, turns: usize) -> bool {
         let black = Picture::new("black", side, side, |_, _| 1);
         let noise = Picture::new("noise of 30 in 100", side, side, |_, _| u8::from(r.below(100) < 30));
         let board = pictures::checkerboard(side, side);
-        for picture in [white, black, noise, board, slate(&mut r, side, side), dashes(&mut r, side, side), many(&mut r, side, side)] {
+        for picture in [white, black, noise, board, slate(&mut r, side, side), dashes(&mut r, side, side), full(side, side)] {
             search_line(&table, &picture);
         }
     }
@@ -270,8 +270,8 @@ fn search_line(table: &Table, picture: &Picture) {
     let mut pixels = picture.pixels.clone();
     let mut refused = picture.pixels.clone();
     refused[w * h - 1] = 2;
-    let number = lent.search(&mut pixels, w, h, w * h);
-    let input = format!("{}, {w} x {h}, {} stones, {number}", picture.kind, lent.counts[1005]);
+    lent.search(&mut pixels, w, h, w * h);
+    let input = format!("{}, {w} x {h}, {} stones", picture.kind, lent.counts[1005]);
     table.line(
         "capstones_from_image",
         &input,
