@@ -1,4 +1,4 @@
-mod Putting
+pub mod Putting
 mod Decimals
 mod Hexes
 mod Signs
