@@ -24,10 +24,11 @@ takes n b = ltb (n .digits) 5 && digit b
 abbrev pub longer : Number → ℕ → Number
 longer n b = record { digits = n .digits + 1; value = n .value * 10 + (b - 48) }
 
--- a byte in the width, and in the height
+-- a byte where the width is read
 unfoldable pub inWidth : Number → ℕ → Reader
 inWidth n b = cond (takes n b) (Width (longer n b)) Broken
 
+-- a byte where the height is read, after a width w
 unfoldable pub inHeight : ℕ → Number → ℕ → Reader
 inHeight w n b = cond (takes n b) (Height w (longer n b)) Broken
 
@@ -55,10 +56,11 @@ stepped (Height w n) b = cond (space b) (sized w (n .value)) (inHeight w n b)
 stepped (Pixels p) b = cond (space b) (Pixels p) (inPixels p b)
 stepped Broken b = Broken
 
--- what the lent pixels hold after it: a pixel goes to its place
+-- what the lent pixels hold after a byte among the pixels: the next pixel goes to its place
 unfoldable pub keptIn : Body → ℕ → List ℕ → List ℕ
 keptIn p b pixels = cond (takesPixel p b) (set pixels (p .count) (b - 48)) pixels
 
+-- what they hold after any byte: elsewhere in the file nothing is stored
 unfoldable pub kept : Reader → ℕ → List ℕ → List ℕ
 kept Nothing b pixels = pixels
 kept Letter b pixels = pixels
@@ -75,13 +77,15 @@ pub record Reading : Type 0 where
   pub reader : Reader
   pub pixels : List ℕ
 
+-- the same, put together
 abbrev pub reading : Reader → List ℕ → Reading
 reading r pixels = record { reader = r; pixels = pixels }
 
--- the reading after one more byte, and after bytes in a row
+-- the reading after one more byte
 abbrev pub next : Reading → ℕ → Reading
 next s b = reading (stepped (s .reader) b) (kept (s .reader) b (s .pixels))
 
+-- the reading after bytes in a row
 unfoldable pub fed : Reading → List ℕ → Reading
 fed s [] = s
 fed s (b ∷ more) = fed (next s b) more

@@ -15,13 +15,15 @@ later word = 32 ∷ word
 abbrev pub feed : List ℕ
 feed = 10 ∷ []
 
--- the words `refused`, `capstones` and `grids`
+-- the word `refused`
 abbrev pub refusedWord : List ℕ
 refusedWord = 114 ∷ 101 ∷ 102 ∷ 117 ∷ 115 ∷ 101 ∷ 100 ∷ []
 
+-- the word `capstones`
 abbrev pub capstonesWord : List ℕ
 capstonesWord = 99 ∷ 97 ∷ 112 ∷ 115 ∷ 116 ∷ 111 ∷ 110 ∷ 101 ∷ 115 ∷ []
 
+-- the word `grids`
 abbrev pub gridsWord : List ℕ
 gridsWord = 103 ∷ 114 ∷ 105 ∷ 100 ∷ 115 ∷ []
 
