@@ -1,0 +1,22 @@
+-- `put_counts` writes two numbers behind the entries. Assumes nothing.
+use mathlib.Core.Path.{refl}
+use borrow.Author.Needs.{needs}
+use Rattle.exports_grids.specs.Put.{putAt}
+use Rattle.exports_grids.proofs.tell.put_counts.Statement.{statement}
+use Rattle.exports_grids.proofs.tell.put_counts.Tie as tie
+
+slice-write-out : tie.Need-slice-write-out
+slice-write-out c = search needs
+
+slice-write-out-2 : tie.Need-slice-write-out-2
+slice-write-out-2 c = search needs
+
+same-length : tie.Need-same-length
+same-length c = search needs
+
+returns : tie.Need-returns
+unfolding putAt
+returns c = refl
+
+pub put-counts-spec : {M : Type 1} → statement M
+put-counts-spec = tie.close (tie.spec slice-write-out slice-write-out-2 same-length returns)
