@@ -1,0 +1,8 @@
+mod Uses
+mod Array
+pub mod Few
+mod Copy
+mod Front
+mod Neighbours
+mod Going
+pub mod Determined

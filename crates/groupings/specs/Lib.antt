@@ -1,0 +1,4 @@
+pub mod Trial
+pub mod Used
+pub mod Groups
+pub mod Held
