@@ -88,3 +88,8 @@ same-held s t e X Y =
     let n = X .count ∙ ap countIn e ∙ sym (Y .count) in
     let verdict = verdict-only (s .verdict) (t .verdict) (groupsOf s) (groupsOf t) e in
     λ i. record { groups = groups i; n = n i; verdict = verdict i }
+
+-- so what a search for groups answers is determined
+pub groupings-determined : {p : List ℕ} {w h lent : ℕ} {T : Table} {stones : List CapStone} → Roomy w h (length p) lent → Proper T w h → Stones stones (length stones)
+    → (s t : Groupings) → Grouped p w h T stones (outcome s) × Laid s → Grouped p w h T stones (outcome t) × Laid t → s ≡ t
+groupings-determined R P S s t X Y = same-held s t (grouped-same R P S (X .0) (Y .0)) (X .1) (Y .1)

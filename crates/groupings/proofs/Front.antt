@@ -4,7 +4,7 @@ use native.Mathlib.Omega.{arith}
 use mathlib.Core.Path.{_≡_, sym, subst}
 use mathlib.Core.List.{List}
 use lib.ListN.{length, getD, take}
-use lib.Seq.{getD-take}
+use lib.Seq.{getD-take, length-take-le}
 use Rattle.refusals.specs.Limits.{mostStones}
 use Rattle.refusals.specs.Finding.{Finding}
 use Rattle.table.specs.declared.Table.{Table}
@@ -13,6 +13,7 @@ use Rattle.capstones.specs.declared.CapStone.{CapStone}
 use Rattle.match_capstones.specs.All.{All, all-none, all-one}
 use Rattle.match_capstones.specs.Proper.{Proper}
 use Rattle.match_capstones.specs.declared.Pair.{Pair}
+use Rattle.groups.specs.Group.{Centred, Cornered}
 use Rattle.groups.specs.declared.CapStoneGroup.{CapStoneGroup}
 use Rattle.groupings.specs.Trial.{Trial}
 use Rattle.groupings.specs.Used.{groupOf, trioOf}
@@ -26,16 +27,22 @@ all-at k d all-none low = absurd (omega arith)
 all-at zero d (all-one x all) low = x
 all-at (suc k) d (all-one x all) low = all-at k d all (omega arith)
 
+-- a group of placed stones can be fitted
+pub group-placed : {stones : List CapStone} {n : ℕ} (t : Trio) → Stones stones n → Low n t → Centred (groupOf stones t) × Cornered (groupOf stones t)
+group-placed t S L =
+    let a = S .each (t .first) (L .first) in
+    let b = S .each (t .second) (L .second) in
+    let c = S .each (t .third) (L .third) in
+    (record { first = a .near; second = b .near; third = c .near }, record { first = a .framed; second = b .framed; third = c .framed })
+
 module _ (stones : List CapStone) {n idx : ℕ} {pair : Pair} (low : idx < n) (P : Proper n idx pair) where
   pub triable : Stones stones n → Triable stones idx pair
   triable S =
-      let h = S .each (pair .h) (P .h-low) in
-      let c = S .each idx low in
-      let v = S .each (pair .v) (P .v-low) in
+      let fit = group-placed (trioOf idx pair) S (record { first = P .h-low; second = low; third = P .v-low }) in
       record {
         proper = record { h-low = omega (arith, P .h-low, S .few); v-low = omega (arith, P .v-low, S .few); h-other = P .h-other; v-other = P .v-other; apart = P .apart };
-        centred = record { first = h .near; second = c .near; third = v .near };
-        cornered = record { first = h .framed; second = c .framed; third = v .framed };
+        centred = fit .0;
+        cornered = fit .1;
       }
 
   same-group : groupOf stones (trioOf idx pair) ≡ groupOf (take n stones) (trioOf idx pair)
@@ -72,4 +79,13 @@ beside-wider {n} {idx} {groups} few B =
       };
       other = B .other;
       centre-low = omega (arith, B .centre-low);
+    }
+
+-- the first n of an array, as a list
+pub stones-first : (stones : List CapStone) (n : ℕ) → n ≤ length stones → Stones stones n → Stones (take n stones) (length (take n stones))
+stones-first stones n whole S =
+    let long = length-take-le n stones whole in
+    record {
+      few = omega (arith, long, S .few);
+      each = λ k low. let below : k < n = omega (arith, long) in rw (getD-take n stones k noStone below) (S .each k below);
     }

@@ -2,7 +2,7 @@ mod Uses
 mod Array
 pub mod Few
 mod Copy
-mod Front
+pub mod Front
 mod Neighbours
 mod Going
 pub mod Determined

@@ -1,4 +1,4 @@
--- A group on trial: document 01, detect, "each group on a copy"; that the copy's age order is turned round is taken from the Rust, `Clone for PreparedImage`. Definitions alone.
+-- A group on trial: document 01, "the copy's age order is turned round"; that the picture is copied for each trial is taken from the Rust, `find_groupings`. Definitions alone.
 use Prim.Native.Nat.{ℕ}
 use mathlib.Core.List.{List}
 use Rattle.refusals.specs.Finding.{Finding}
