@@ -456,7 +456,7 @@ fn full(r: &mut Random) -> Scene {
         if reach::pixels(&scene.img)[y * width + x] == 1 {
             reach::look_up(&mut scene.img, x, y);
         }
-        if reach::table(&scene.img).len() == 251 && r.one_in(20) {
+        if r.one_in(50) && reach::table(&scene.img).len() == 251 {
             break;
         }
     }

@@ -54,7 +54,7 @@ fn cells(r: &mut Random, version: usize) -> Vec<bool> {
 
 /// Four corners of a symbol, turned, sheared or warped, and the sides of a picture around them.
 fn corners(r: &mut Random, size: usize) -> ([Point; 4], usize, usize) {
-    let largest = (560.0 / size as f64).min(8.0);
+    let largest = f64::max(1.5, r.pick(&[160.0, 160.0, 240.0, 560.0]) / size as f64).min(8.0);
     let most = largest.min(r.pick(&[2.5, 4.0, 8.0])).max(1.6);
     let cell = if largest <= 1.5 { largest } else { r.within(1.5, most) };
     let half = cell * size as f64 / 2.0;
@@ -78,7 +78,7 @@ fn corners(r: &mut Random, size: usize) -> ([Point; 4], usize, usize) {
 
 /// A symbol of a random version, small ones more often.
 pub fn seen(r: &mut Random) -> Seen {
-    let most = r.pick(&[2, 2, 3, 3, 4, 6, 6, 9, 9, 14, 22, 40]);
+    let most = r.pick(&[2, 2, 2, 3, 3, 3, 4, 4, 6, 6, 6, 9, 9, 14, 22, 40]);
     let version = r.below(most) + 1;
     let size = 4 * version + 17;
     let cells = cells(r, version);
