@@ -1,4 +1,4 @@
--- How groups are held in an array of 31, and what is asked of stones. Definitions alone.
+-- How groups are held in an array of 31 (document 01, "arrays of 64 stones, 992 pairs, 31 groups"), what is asked of stones, and how groups are counted. Definitions alone.
 use Prim.Native.Nat.{ℕ, _+_, _-_, _≤_, _<_}
 use mathlib.Core.Path.{_≡_}
 use mathlib.Core.Bool.{Bool, true, false}
@@ -23,6 +23,7 @@ use Rattle.groupings.specs.declared.Groupings.{Groupings}
 abbrev pub mostGroups : ℕ
 mostGroups = 31
 
+-- the blank trio, which stands in an array wherever there is no group
 abbrev pub noTrio : Trio
 noTrio = record { first = 0; second = 0; third = 0 }
 
@@ -40,6 +41,7 @@ unfoldable pub goes : Verdict → Bool
 goes Sound = true
 goes (Refused why) = false
 
+-- what a search for groups comes to
 abbrev pub outcome : Groupings → Finding (List Trio)
 outcome s = told (s .verdict) (groupsOf s)
 
@@ -48,6 +50,7 @@ unfoldable pub laidOut : Finding (List Trio) → List Trio
 laidOut (found l) = l ++ replicate (mostGroups - length l) noTrio
 laidOut (refused n) = replicate mostGroups noTrio
 
+-- how many groups an outcome has
 unfoldable pub countIn : Finding (List Trio) → ℕ
 countIn (found l) = length l
 countIn (refused n) = 0
@@ -89,7 +92,7 @@ pub record Counted (n : ℕ) (groups : List Trio) : Type 0 where
   pub own-low : (i : ℕ) → Mem i own → i < n
   pub spare : length groups + length groups ≤ n - 1
 
--- the same, and a centre that is none of those
+-- the same, and a centre that is none of the stones counted
 pub record Beside (n idx : ℕ) (groups : List Trio) : Type 0 where
   pub counted : Counted n groups
   pub other : Mem idx (counted .own) → ⊥

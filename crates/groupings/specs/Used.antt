@@ -1,4 +1,4 @@
--- Groups by the indices of their stones, and which stones are used. Definitions alone.
+-- Groups by the indices of their stones, and which stones are used: taken from the Rust, `find_groupings`. Definitions alone.
 use Prim.Native.Nat.{ℕ}
 use mathlib.Core.Bool.{Bool, false, _||_}
 use mathlib.Core.List.{List, [], _∷_}
@@ -14,7 +14,7 @@ use Rattle.groupings.specs.declared.Trio.{Trio}
 abbrev pub groupOf : List CapStone → Trio → CapStoneGroup
 groupOf stones t = record { first = getD stones (t .first) noStone; second = getD stones (t .second) noStone; third = getD stones (t .third) noStone }
 
--- a centre with a pair of its neighbours: h stands first, the centre second, v third (taken from the Rust)
+-- a centre with a pair of its neighbours: h stands first, the centre second, v third
 abbrev pub trioOf : ℕ → Pair → Trio
 trioOf idx pair = record { first = pair .h; second = idx; third = pair .v }
 
