@@ -231,8 +231,27 @@ fn compare(seed: u64, count: u64) -> bool {
             fit_one(&mut report, &mut lent, &scene, group);
         }
     }
-    let agreed = report.close();
-    refusals(&mut lent, &mut r).close() && agreed
+    let reports = [report, strays(&mut lent, &mut Random::new(seed, "strays"), count / 10), refusals(&mut lent, &mut r)];
+    reports.into_iter().map(Report::close).fold(true, |a, b| a && b)
+}
+
+/// Pictures with numbers that the table has no entry of: the Rust panics where it looks one up.
+fn strays(lent: &mut Lent, r: &mut Random, count: u64) -> Report {
+    let mut report = Report::new("groups fitted among stray numbers");
+    while report.cases() < count {
+        let mut scene = if r.one_in(3) { full(r) } else { symbol_true(r) };
+        for _ in 0..3 {
+            paint(r, &mut scene);
+        }
+        let table = reach::table(&scene.img);
+        let kept = r.below(table.len() + 1);
+        let table: Vec<_> = table.into_iter().filter(|(number, _)| (*number as usize) < kept).collect();
+        scene.img = copy(scene.width, scene.height, reach::pixels(&scene.img), &table);
+        for group in &scene.groups {
+            fit_one(&mut report, lent, &scene, group);
+        }
+    }
+    report
 }
 
 fn size_kind(size: usize) -> &'static str {
