@@ -270,17 +270,18 @@ fn fit_one(report: &mut Report, lent: &mut Lent, scene: &Scene, group: &[CapSton
     let (w, h) = (scene.width, scene.height);
     let before = reach::pixels(&scene.img).to_vec();
     let table = reach::table(&scene.img);
-    let mut img = copy(w, h, &before, &table);
-    let [a, b, c] = group.clone();
-    let found = unless_panic(|| SkewedGridLocation::from_group(&mut img, CapStoneGroup(a, b, c)));
-    let said = if found.is_none() { SAID.with(|said| said.borrow().clone()) } else { String::new() };
     lent.lend(&table);
     let lent_before = lent.counts.clone();
     let mut pixels = before.clone();
     let ours = lent.fit(&mut pixels, w, h, group);
     let kept = || pixels == before && lent.counts == lent_before && lent.floats_kept();
-    let left = || pixels == reach::pixels(&img) && lent.same_table(&img);
     let (always, sometimes) = limits(w, h, group);
+    let mut img = copy(w, h, &before, &table);
+    let [a, b, c] = group.clone();
+    // past a limit the Rust goes on, and may search for hours
+    let found = if ours == FAR { Some(None) } else { unless_panic(|| SkewedGridLocation::from_group(&mut img, CapStoneGroup(a, b, c))) };
+    let said = if found.is_none() { SAID.with(|said| said.borrow().clone()) } else { String::new() };
+    let left = || pixels == reach::pixels(&img) && lent.same_table(&img);
     let (same, outcome) = match &found {
         _ if ours == FAR => (sometimes && kept(), "12, where a limit bites".to_string()),
         _ if always && ours != TIMING => (false, String::new()),
