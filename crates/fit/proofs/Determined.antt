@@ -3,11 +3,10 @@ use Prim.Native.Nat.{ℕ}
 use native.Mathlib.Omega.{arith}
 use mathlib.Core.Path.{_≡_, sym, ap, _∙_}
 use mathlib.Core.Bool.{true, false}
-use mathlib.Core.List.{List, [], _∷_}
+use mathlib.Core.List.{List}
 use lib.ListN.{length}
-use Rattle.refusals.specs.Finding.{Finding, found, refused}
-use Rattle.refusals.specs.First.{first, sound}
-use Rattle.points.specs.declared.Point.{Point}
+use Rattle.refusals.specs.Finding.{Finding, refused}
+use Rattle.refusals.specs.First.{sound}
 use Rattle.picture.specs.Sides.{Roomy}
 use Rattle.table.specs.Table.{most}
 use Rattle.table.specs.declared.Table.{Table}
@@ -24,7 +23,6 @@ use Rattle.grids.specs.declared.Fit.{Fit}
 use Rattle.grids.proofs.Determined.{meaning-only}
 use Rattle.corners.specs.Scores.{Direction}
 use Rattle.fourth_corner.proofs.Determined.{corner-determined}
-use Rattle.fit.specs.Tests.{fitTests}
 use Rattle.fit.specs.Fit.{locatedBy, Completes, Fits, not-outlined, apart, outlined, FitsWhole, put-back, stands, FitPost, refuses, fits}
 use Rattle.fit.proofs.Taken.{fittable}
 

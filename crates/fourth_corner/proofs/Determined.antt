@@ -2,7 +2,7 @@
 use Prim.Native.Nat.{ℕ}
 use native.Mathlib.Nat.{le-refl}
 use native.Mathlib.Omega.{arith}
-use mathlib.Core.Path.{_≡_, refl, sym, ap, _∙_}
+use mathlib.Core.Path.{_≡_, sym, ap, _∙_}
 use mathlib.Core.List.{List, [], _∷_}
 use lib.ListN.{length}
 use Rattle.refusals.specs.Finding.{Finding, found, refused}
@@ -13,8 +13,6 @@ use Rattle.table.specs.declared.Table.{Table}
 use Rattle.table.proofs.Kept.{Proper}
 use Rattle.regions.proofs.Unique.{Alike}
 use Rattle.alignment.specs.Pattern.{Aligns}
-use Rattle.alignment.specs.Spiral.{firstPass}
-use Rattle.alignment.specs.Search.{Spirals}
 use Rattle.alignment.proofs.Spiralling.{still-roomy}
 use Rattle.alignment.proofs.Sighted.{Sighted, search-keeps, search-sights}
 use Rattle.alignment.proofs.Determined.{search-same}

@@ -11,7 +11,6 @@ use Rattle.picture.specs.Sides.{Roomy}
 use Rattle.corners.specs.Scores.{Direction}
 use Rattle.table.specs.declared.Table.{Table}
 use Rattle.table.proofs.Kept.{Proper}
-use Rattle.alignment.specs.Pattern.{Claimable}
 use Rattle.alignment.proofs.Kept.{Kept, kept-on, kept-still}
 use Rattle.alignment.proofs.Spiralling.{still-roomy}
 use Rattle.alignment.proofs.Sighted.{Sighted, search-keeps, search-sights}

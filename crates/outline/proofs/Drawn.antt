@@ -1,7 +1,7 @@
 -- What is known of an outline that is drawn, and that an answer is determined. Assumes nothing.
 use Prim.Native.Nat.{ℕ}
 use native.Mathlib.Omega.{arith}
-use mathlib.Core.Path.{_≡_, refl, sym, ap, _∙_}
+use mathlib.Core.Path.{_≡_, refl, ap}
 use mathlib.Core.List.{List, [], _∷_}
 use Rattle.refusals.specs.Finding.{Finding, found, refused}
 use Rattle.refusals.proofs.Distinct.{refusal-only}
@@ -13,7 +13,6 @@ use Rattle.lines.specs.Meet.{meetOf}
 use Rattle.lines.specs.declared.Meet.{Meet}
 use Rattle.lines.specs.declared.Meet.the-variants.{At, Nowhere}
 use Rattle.corners.specs.Scores.{Direction}
-use Rattle.grids.specs.Grid.{Modules}
 use Rattle.groups.specs.Group.{Centred, Cornered}
 use Rattle.groups.specs.Orient.{oriented}
 use Rattle.groups.specs.Rotate.{rotatedGroup}

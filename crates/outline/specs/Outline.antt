@@ -1,6 +1,5 @@
 -- A group's outline: document 01, "Groups and grids"; which lines meet at the fourth corner is taken from the Rust, `from_group`. Definitions alone.
 use Prim.Native.Nat.{ℕ}
-use mathlib.Core.Path.{_≡_}
 use mathlib.Core.List.{List, [], _∷_}
 use Rattle.refusals.specs.Finding.{Finding, found, refused, refusedBy}
 use Rattle.points.specs.Range.{Near}

@@ -1,9 +1,7 @@
 -- `find_corner` goes by the size, then by the estimate. Assumes nothing.
-use mathlib.Core.Path.{_≡_, refl, sym, ap, _∙_}
+use mathlib.Core.Path.{refl, sym, ap, _∙_}
 use borrow.Author.Needs.{needs}
-use Rattle.refusals.specs.Finding.{found}
 use Rattle.alignment.specs.Estimate as estimate
-use Rattle.alignment.specs.Estimate.{estimateOf}
 use Rattle.alignment.proofs.Areas.{estimate-few}
 use Rattle.fourth_corner.specs.Corner.{plain, unguessed, sought}
 use Rattle.fourth_corner.proofs.find_corner.Statement.{statement}

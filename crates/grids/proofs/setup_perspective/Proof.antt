@@ -1,5 +1,4 @@
 -- `setup_perspective` tests the version, then the corners. Assumes nothing.
-use native.Mathlib.Omega.{arith}
 use borrow.Author.Needs.{needs}
 use borrow.Author.Tests.{le-leb, lt-leb}
 use Rattle.version_db.specs.AnnexE.{versionOf}

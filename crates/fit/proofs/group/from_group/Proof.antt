@@ -1,5 +1,5 @@
 -- `from_group` goes by the outline. Assumes nothing.
-use mathlib.Core.Path.{_≡_, refl, sym, ap, _∙_}
+use mathlib.Core.Path.{refl, sym, ap, _∙_}
 use borrow.Author.Needs.{needs}
 use Rattle.outline.specs.Outline as outline
 use Rattle.outline.proofs.Drawn.{outline-drawn}

@@ -1,14 +1,12 @@
 -- `fit_group` tests, and then fits. Assumes nothing.
 use mathlib.Core.Path.{_≡_, refl, sym, ap, _∙_}
-use mathlib.Core.List.{List}
 use lib.ListN.{length}
 use borrow.Author.Needs.{needs}
-use borrow.Author.Tests.{not-false}
-use Rattle.refusals.specs.First.{Test, first, sound}
+use Rattle.refusals.specs.First.{first, sound}
 use Rattle.picture.specs.Verdict.{judged}
 use Rattle.fit.specs.Tests.{fitTests}
 use Rattle.fit.specs.Fit.{refuses, fits}
-use Rattle.fit.proofs.Taken.{Fittable, fittable}
+use Rattle.fit.proofs.Taken.{fittable}
 use Rattle.fit.proofs.whole.fit_group.Statement.{statement}
 use Rattle.fit.proofs.whole.fit_group.Tie as tie
 

@@ -1,8 +1,6 @@
 -- `fit_kept` keeps the picture, and puts it back where the steps refuse. Assumes nothing.
-use Prim.Native.Nat.{_≤_}
 use native.Mathlib.Omega.{arith}
-use mathlib.Core.Path.{_≡_, refl, sym, _∙_}
-use lib.ListN.{length}
+use mathlib.Core.Path.{refl, sym, _∙_}
 use borrow.Author.Needs.{needs}
 use Rattle.fit.specs.Fit.{put-back, stands}
 use Rattle.fit.proofs.Scratch.{kept-front}
