@@ -7,6 +7,7 @@ mod pairs;
 mod trial;
 
 pub use centres::find_groupings;
+pub use pairs::group_of;
 
 // A group by the indices of its stones: the first and the third are beside the second, its centre.
 pub struct Trio {

@@ -19,7 +19,7 @@ ghost use Rattle.groupings.specs.Groups.{PairTried, PairsTried};
 ghost use Rattle.groupings.specs.Held.{groupsOf, outcome, Laid, Holds, Beside, Low, Triable};
 
 // The stones that a trio names.
-fn group_of(stones: [CapStone; 64], t: Trio) -> CapStoneGroup
+pub fn group_of(stones: [CapStone; 64], t: Trio) -> CapStoneGroup
     requires { ⌜ Low 64 t ⌝ }
     ensures { λ r. ⌜ r ≡ groupOf stones t ⌝ }
 {
