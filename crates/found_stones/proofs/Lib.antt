@@ -1,2 +1,3 @@
 pub mod Stones
 pub mod Keeps
+pub mod Few

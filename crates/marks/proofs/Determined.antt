@@ -121,11 +121,16 @@ same-marks s t e table X Y =
     let verdict = verdict-only (s .verdict) (t .verdict) (stonesOf s) (stonesOf t) e in
     λ i. record { stones = stones i; n = n i; table = table i; verdict = verdict i }
 
--- the marks, the picture and the table are determined
+-- what a search comes to, the picture and the table are determined
+pub searches-same : {p : List ℕ} {w h lent : ℕ} {T : Table} {f g : Finding (List CapStone)} {q r : List ℕ} {U Z : Table}
+    → InWork p w h lent T → Searches w h (allCuts p w h) p T [] f q U → Searches w h (allCuts p w h) p T [] g r Z → Alike f q U g r Z
+searches-same {p} {w} {h} W X Y = search-same W (all-stand p w h) X Y
+
+-- and so are the marks in their array
 pub marks-determined : {p : List ℕ} {w h lent : ℕ} {T : Table} {q r : List ℕ} (s t : Marks) → InWork p w h lent T
     → Searches w h (allCuts p w h) p T [] (outcome s) q (s .table) × Laid s → Searches w h (allCuts p w h) p T [] (outcome t) r (t .table) × Laid t → (s ≡ t) × (q ≡ r)
-marks-determined {p} {w} {h} s t W X Y =
-    let e = search-same W (all-stand p w h) (X .0) (Y .0) in
+marks-determined s t W X Y =
+    let e = searches-same W (X .0) (Y .0) in
     (same-marks s t (e .0) (e .2) (X .1) (Y .1), e .1)
 
 -- and so they are for any bitmap that a caller hands over
