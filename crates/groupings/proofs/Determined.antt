@@ -82,14 +82,11 @@ verdict-only (Refused a) Sound k l e = let z : _≡_ {A = ℕ} 0 1 = cc in absur
 verdict-only (Refused a) (Refused b) k l e = ap Refused (refusal-only {a = a} {b = b} e)
 
 -- groups of one outcome are held in one way
-pub same-held : (s t : Groupings) → outcome s ≡ outcome t → Laid s → Laid t → s ≡ t
+pub same-held : (s t : Groupings) → outcome s ≡ outcome t → Laid s → Laid t → (s .groups ≡ t .groups) × (s .n ≡ t .n) × (s .verdict ≡ t .verdict)
 same-held s t e X Y =
-    let groups = X .groups ∙ ap laidOut e ∙ sym (Y .groups) in
-    let n = X .count ∙ ap countIn e ∙ sym (Y .count) in
-    let verdict = verdict-only (s .verdict) (t .verdict) (groupsOf s) (groupsOf t) e in
-    λ i. record { groups = groups i; n = n i; verdict = verdict i }
+    (X .groups ∙ ap laidOut e ∙ sym (Y .groups), X .count ∙ ap countIn e ∙ sym (Y .count), verdict-only (s .verdict) (t .verdict) (groupsOf s) (groupsOf t) e)
 
--- so what a search for groups answers is determined
+-- so what a search for groups finds is determined; what it remembers is no finding
 pub groupings-determined : {p : List ℕ} {w h lent : ℕ} {T : Table} {stones : List CapStone} → Roomy w h (length p) lent → Proper T w h → Stones stones (length stones)
-    → (s t : Groupings) → Grouped p w h T stones (outcome s) × Laid s → Grouped p w h T stones (outcome t) × Laid t → s ≡ t
+    → (s t : Groupings) → Grouped p w h T stones (outcome s) × Laid s → Grouped p w h T stones (outcome t) × Laid t → (s .groups ≡ t .groups) × (s .n ≡ t .n) × (s .verdict ≡ t .verdict)
 groupings-determined R P S s t X Y = same-held s t (grouped-same R P S (X .0) (Y .0)) (X .1) (Y .1)

@@ -11,6 +11,7 @@ use match_capstones::find_and_rank_possible_neighbors;
 use table::Table;
 ghost use Prim.Native.Nat.{_*_, _≤_, _<_};
 ghost use lib.ListN.{length, take};
+ghost use Rattle.setups.specs.Remember.{AllRemember};
 ghost use Rattle.fourth_corner.specs.Corner.{Workable};
 ghost use Rattle.groupings.specs.Groups.{CentreTried, Grouped};
 ghost use Rattle.groupings.specs.Held.{groupsOf, outcome, Laid, Holds, Stones, Counted};
@@ -28,8 +29,8 @@ fn try_centre(
     idx: usize,
     held: Groupings,
 ) -> Groupings
-    requires { ⌜ Workable (now pic) width height (length (now stack)) table × (width * height ≤ length (now scratch)) × Stones stones n × (idx < n) × Holds held × Counted n (groupsOf held) ⌝ }
-    ensures { λ r. ⌜ CentreTried (now (pic .entry)) width height table (take n stones) idx (groupsOf held) (outcome r) × Laid r ⌝ }
+    requires { ⌜ Workable (now pic) width height (length (now stack)) table × (width * height ≤ length (now scratch)) × Stones stones n × (idx < n) × Holds held × Counted n (groupsOf held) × AllRemember (now pic) width height (held .setups) ⌝ }
+    ensures { λ r. ⌜ CentreTried (now (pic .entry)) width height table (take n stones) idx (groupsOf held) (outcome r) × Laid r × AllRemember (now (pic .entry)) width height (r .setups) ⌝ }
 {
     if is_used(held, idx) {
         return held;
@@ -67,7 +68,7 @@ pub fn find_groupings(
     n: usize,
 ) -> Groupings
     requires { ⌜ Workable (now pic) width height (length (now stack)) table × (width * height ≤ length (now scratch)) × Stones stones n ⌝ }
-    ensures { λ r. ⌜ Grouped (now (pic .entry)) width height table (take n stones) (outcome r) × Laid r ⌝ }
+    ensures { λ r. ⌜ Grouped (now (pic .entry)) width height table (take n stones) (outcome r) × Laid r × AllRemember (now (pic .entry)) width height (r .setups) ⌝ }
 {
     let mut sofar = no_groups();
     for idx in 0..n {

@@ -13,6 +13,7 @@ ghost use mathlib.Core.Path.{_≡_};
 ghost use Prim.Native.Nat.{ℕ, _*_, _≤_, _<_};
 ghost use lib.ListN.{length, getD, take};
 ghost use Rattle.match_capstones.specs.Answer.{noPair};
+ghost use Rattle.setups.specs.Remember.{AllRemember};
 ghost use Rattle.fourth_corner.specs.Corner.{Workable};
 ghost use Rattle.groupings.specs.Used.{groupOf};
 ghost use Rattle.groupings.specs.Groups.{PairTried, PairsTried};
@@ -49,8 +50,8 @@ fn try_pair(
     pair: Pair,
     held: Groupings,
 ) -> Groupings
-    requires { ⌜ Workable (now pic) width height (length (now stack)) table × (width * height ≤ length (now scratch)) × Triable stones idx pair × Holds held × Beside 64 idx (groupsOf held) ⌝ }
-    ensures { λ r. ⌜ PairTried (now (pic .entry)) width height table stones idx pair (groupsOf held) (outcome r) × Laid r ⌝ }
+    requires { ⌜ Workable (now pic) width height (length (now stack)) table × (width * height ≤ length (now scratch)) × Triable stones idx pair × Holds held × Beside 64 idx (groupsOf held) × AllRemember (now pic) width height (held .setups) ⌝ }
+    ensures { λ r. ⌜ PairTried (now (pic .entry)) width height table stones idx pair (groupsOf held) (outcome r) × Laid r × AllRemember (now (pic .entry)) width height (r .setups) ⌝ }
 {
     if is_used(held, pair.h) {
         return held;
@@ -64,8 +65,8 @@ fn try_pair(
         third: pair.v,
     };
     let group = group_of(stones, t);
-    let fit = trial(pic, width, height, stack, scratch, table, group);
-    taken(held, t, fit)
+    let answer = trial(pic, width, height, stack, scratch, table, group);
+    taken(held, t, answer)
 }
 
 // Tries the pairs of the centre idx, in their order; a refusal ends it.
@@ -82,8 +83,8 @@ pub fn try_pairs(
     count: usize,
     held: Groupings,
 ) -> Groupings
-    requires { ⌜ Workable (now pic) width height (length (now stack)) table × (width * height ≤ length (now scratch)) × (count ≤ 992) × ((k : ℕ) → k < count → Triable stones idx (getD pairs k noPair)) × Holds held × Beside 64 idx (groupsOf held) ⌝ }
-    ensures { λ r. ⌜ PairsTried (now (pic .entry)) width height table stones idx (take count pairs) (groupsOf held) (outcome r) × Laid r ⌝ }
+    requires { ⌜ Workable (now pic) width height (length (now stack)) table × (width * height ≤ length (now scratch)) × (count ≤ 992) × ((k : ℕ) → k < count → Triable stones idx (getD pairs k noPair)) × Holds held × Beside 64 idx (groupsOf held) × AllRemember (now pic) width height (held .setups) ⌝ }
+    ensures { λ r. ⌜ PairsTried (now (pic .entry)) width height table stones idx (take count pairs) (groupsOf held) (outcome r) × Laid r × AllRemember (now (pic .entry)) width height (r .setups) ⌝ }
 {
     let mut sofar = held;
     for k in 0..count {

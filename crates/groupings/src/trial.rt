@@ -1,13 +1,15 @@
 // A group on trial: fitted on a copy of the picture, which is thrown away.
-use fit::from_group;
-use grids::Fit;
+use fit::refit;
 use groups::CapStoneGroup;
+use setups::Answer;
+use setups::no_setup;
 use table::Table;
 use table::copied;
 ghost use Prim.Native.Nat.{_*_, _≤_};
 ghost use lib.ListN.{length};
 ghost use Rattle.groups.specs.Group.{Centred, Cornered};
 ghost use Rattle.grids.specs.Grid.{meaning};
+ghost use Rattle.setups.specs.Remember.{Remembers};
 ghost use Rattle.fourth_corner.specs.Corner.{Workable};
 ghost use Rattle.groupings.specs.Trial.{Trial};
 
@@ -20,13 +22,22 @@ pub fn trial(
     scratch: &mut [u8],
     table: Table,
     group: CapStoneGroup,
-) -> Fit
+) -> Answer
     requires { ⌜ Workable (now pic) width height (length (now stack)) table × (width * height ≤ length (now scratch)) × Centred group × Cornered group ⌝ }
-    ensures { λ r. ⌜ Trial (now (pic .entry)) width height table group (meaning r) ⌝ }
+    ensures { λ r. ⌜ Trial (now (pic .entry)) width height table group (meaning (r .fit)) × Remembers (now (pic .entry)) width height (r .setup) ⌝ }
 {
+    let known = no_setup();
     let turned = copied(table);
     let n = pic.len();
     bytes::copy(pic, scratch);
-    let fitted = from_group(&mut scratch[0..n], width, height, stack, turned, group);
-    fitted.fit
+    let fitted = refit(
+        &mut scratch[0..n],
+        width,
+        height,
+        stack,
+        turned,
+        group,
+        known,
+    );
+    fitted.answer
 }

@@ -6,6 +6,8 @@ use lib.ListN.{length, take}
 use lib.Seq.{length-take-le}
 use borrow.Author.Tests.{not-true, not-false}
 use borrow.Author.Needs.{needs}
+use Rattle.setups.specs.Remember.{AllRemember}
+use Rattle.setups.proofs.Known.{blanks-remember}
 use Rattle.groupings.specs.Held.{groupsOf, Counted}
 use Rattle.groupings.proofs.Copy.{still-workable}
 use Rattle.groupings.proofs.Going.{AfterCentres, centres-begin, centres-end, centres-stop, centres-next}
@@ -14,7 +16,7 @@ use Rattle.groupings.proofs.centres.find_groupings.Tie as tie
 
 abbrev Inv-loop : tie.InvT-loop
 Inv-loop pic width height stack₀ scratch₀ table stones n sofar₀ idx₀ stack scratch sofar idx =
-    AfterCentres pic width height table (take n stones) idx sofar × (idx ≤ n) × (length stack ≡ length stack₀) × (length scratch ≡ length scratch₀)
+    AfterCentres pic width height table (take n stones) idx sofar × (idx ≤ n) × (length stack ≡ length stack₀) × (length scratch ≡ length scratch₀) × AllRemember pic width height (sofar .setups)
 
 abbrev μ-loop : tie.MeasureT-loop
 μ-loop pic width height stack₀ scratch₀ table stones n sofar₀ idx₀ stack scratch sofar idx = n - idx
@@ -31,7 +33,7 @@ no-groups-requires : tie.Need-no-groups-requires Inv-loop μ-loop
 no-groups-requires c κs = search needs
 
 loop-holds : tie.Need-loop-holds Inv-loop μ-loop
-loop-holds c = (centres-begin (c .no-groups .result) (c .no-groups .ensures .0) (c .no-groups .ensures .1), omega arith, refl, refl)
+loop-holds c = let none = c .no-groups .ensures in (centres-begin (c .no-groups .result) (none .0) (none .1), omega arith, refl, refl, blanks-remember 31 (none .2))
 
 try-centre-requires : tie.Need-try-centre-requires Inv-loop μ-loop
 try-centre-requires c κs =
@@ -39,7 +41,7 @@ try-centre-requires c κs =
     let s = start .pre in
     let l = c .before .before .before .loop in
     let A = l .inv .0 in
-    (still-workable (s .0) (l .inv .2), omega (arith, s .1, l .inv .3), s .2, c .before .before .loop-test .taken, A .holds, subst (λ (m : ℕ). Counted m (groupsOf (l .sofar))) (long start) (A .counted))
+    (still-workable (s .0) (l .inv .2), omega (arith, s .1, l .inv .3), s .2, c .before .before .loop-test .taken, A .holds, subst (λ (m : ℕ). Counted m (groupsOf (l .sofar))) (long start) (A .counted), l .inv .4)
 
 is-sound-requires : tie.Need-is-sound-requires Inv-loop μ-loop
 is-sound-requires c κs = search needs
@@ -56,7 +58,7 @@ returns c =
     let low = c .before .before .before .before .before .before .before .before .before .loop-test .taken in
     let done = c .before .before .before .before .before .before .try-centre in
     let stops = sym (c .before .is-sound .ensures) ∙ not-true _ (c .if1 .taken) in
-    (centres-stop (l .inv .0) (omega (arith, long (c .before .before .before .before .before .before .before .before .before .before .before .before .before .before .before), low)) (done .result) (done .ensures .0) stops, done .ensures .1)
+    (centres-stop (l .inv .0) (omega (arith, long (c .before .before .before .before .before .before .before .before .before .before .before .before .before .before .before), low)) (done .result) (done .ensures .0) stops, done .ensures .1, done .ensures .2)
 
 add-idx : tie.Need-add-idx Inv-loop μ-loop
 add-idx c = search needs
@@ -74,6 +76,7 @@ loop-again c =
       omega arith,
       omega (arith, l .inv .2, done .kept .1 .1 .1 .0),
       omega (arith, l .inv .3, done .kept .1 .1 .1 .1 .0),
+      done .ensures .2,
     )
 
 same-length-3 : tie.Need-same-length-3 Inv-loop μ-loop
@@ -85,7 +88,7 @@ same-length-4 c = search needs
 returns-2 : tie.Need-returns-2 Inv-loop μ-loop
 returns-2 c =
     let l = c .before .loop in
-    (centres-end (l .inv .0) (omega (arith, long (c .before .before .before .before .before .before), c .loop-test .left)), l .inv .0 .holds .laid)
+    (centres-end (l .inv .0) (omega (arith, long (c .before .before .before .before .before .before), c .loop-test .left)), l .inv .0 .holds .laid, l .inv .4)
 
 pub find-groupings-spec : {M : Type 1} → statement M
 find-groupings-spec =

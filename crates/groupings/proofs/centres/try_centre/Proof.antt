@@ -25,7 +25,7 @@ is-used-requires c κs = c .before .before .before .pre .4 .laid .few
 returns : tie.Need-returns
 returns c =
     let s = c .before .before .before .before .before .pre in
-    (used-before (sym (c .before .is-used .ensures) ∙ c .if1 .taken) (s .4 .going), s .4 .laid)
+    (used-before (sym (c .before .is-used .ensures) ∙ c .if1 .taken) (s .4 .going), s .4 .laid, s .6)
 
 find-and-rank-possible-neighbors-requires : tie.Need-find-and-rank-possible-neighbors-requires
 find-and-rank-possible-neighbors-requires c κs = search needs
@@ -49,6 +49,7 @@ try-pairs-requires c κs =
       (λ k low. triable stones (s .3) (each-proper stones n idx (s .2 .few) (whole start) (s .3) (ranked .result) (ranked .ensures) _ is k low) (s .2)),
       s .4,
       beside-wider (s .2 .few) (beside-unused (s .5) free (s .3)),
+      s .6,
     )
 
 enum-known-answer-2 : tie.Need-enum-known-answer-2
@@ -70,7 +71,7 @@ returns-2 c =
     let ranked = c .before .before .before .before .before .before .before .before .before .before .before .find-and-rank-possible-neighbors in
     let done = c .before .before .before .before .try-pairs in
     let free = sym (c .before .before .before .before .before .before .before .before .before .before .before .before .before .is-used .ensures) ∙ c .before .before .before .before .before .before .before .before .before .before .before .before .if1 .left in
-    (with-pairs free (from-array (start .args .stones) (start .args .n) (start .args .idx) (s .2 .few) (whole start) (s .3) (ranked .result) (ranked .ensures) _ (c .before .before .before .before .before .before .before .before .answer .given .1) (done .ensures .0)), done .ensures .1)
+    (with-pairs free (from-array (start .args .stones) (start .args .n) (start .args .idx) (s .2 .few) (whole start) (s .3) (ranked .result) (ranked .ensures) _ (c .before .before .before .before .before .before .before .before .answer .given .1) (done .ensures .0)), done .ensures .1, done .ensures .2)
 
 returns-3 : tie.Need-returns-3
 returns-3 c =

@@ -2,14 +2,18 @@
 use mathlib.Core.Path.{refl}
 use mathlib.Core.List.{[]}
 use lib.Dec.{lit≤}
+use borrow.Author.Needs.{needs}
 use Rattle.groupings.specs.Held.{laidOut}
 use Rattle.groupings.proofs.Array.{laid-found}
 use Rattle.groupings.proofs.held.no_groups.Statement.{statement}
 use Rattle.groupings.proofs.held.no_groups.Tie as tie
 
+no-setups-requires : tie.Need-no-setups-requires
+no-setups-requires c κs = search needs
+
 returns : tie.Need-returns
 unfolding laidOut
-returns c = laid-found _ [] refl (lit≤ tt) refl refl
+returns c = let L = laid-found _ [] refl (lit≤ tt) refl refl in (L .0, L .1, c .no-setups .ensures)
 
 pub no-groups-spec : {M : Type 1} → statement M
-no-groups-spec = tie.close (tie.spec returns)
+no-groups-spec = tie.close (tie.spec no-setups-requires returns)

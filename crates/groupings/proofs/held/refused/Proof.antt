@@ -1,11 +1,15 @@
 -- `refused` holds a refusal, and blank groups. Assumes nothing.
 use mathlib.Core.Path.{refl}
+use borrow.Author.Needs.{needs}
 use Rattle.groupings.proofs.Array.{laid-refused}
 use Rattle.groupings.proofs.held.refused.Statement.{statement}
 use Rattle.groupings.proofs.held.refused.Tie as tie
 
+no-setups-requires : tie.Need-no-setups-requires
+no-setups-requires c κs = search needs
+
 returns : tie.Need-returns
-returns c = laid-refused _ _ refl refl refl
+returns c = let L = laid-refused _ _ refl refl refl in (L .0, L .1, c .no-setups .ensures)
 
 pub refused-spec : {M : Type 1} → statement M
-refused-spec = tie.close (tie.spec returns)
+refused-spec = tie.close (tie.spec no-setups-requires returns)

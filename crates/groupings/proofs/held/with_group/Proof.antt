@@ -12,15 +12,22 @@ mul-groups c = search needs
 array-set-from-groups : tie.Need-array-set-from-groups
 array-set-from-groups c = search needs
 
-add-t5 : tie.Need-add-t5
-add-t5 c = search needs
+mul-setups : tie.Need-mul-setups
+mul-setups c = search needs
+
+array-set-from-setups : tie.Need-array-set-from-setups
+array-set-from-setups c = search needs
+
+add-t7 : tie.Need-add-t7
+add-t7 c = search needs
 
 returns : tie.Need-returns
 returns c =
-    let s = c .before .pre in
+    let s = c .before .before .pre in
     let H = s .0 in
-    let t = c .before .args .t in
-    laid-found _ _ (count-more (H .laid) (H .going) t) (omega (arith, s .1)) refl (one-more (H .laid) (H .going) t (s .1))
+    let t = c .before .before .args .t in
+    let L = laid-found _ _ (count-more (H .laid) (H .going) t) (omega (arith, s .1)) refl (one-more (H .laid) (H .going) t (s .1)) in
+    (L .0, L .1, refl)
 
 pub with-group-spec : {M : Type 1} → statement M
-with-group-spec = tie.close (tie.spec mul-groups array-set-from-groups add-t5 returns)
+with-group-spec = tie.close (tie.spec mul-groups array-set-from-groups mul-setups array-set-from-setups add-t7 returns)

@@ -17,7 +17,7 @@ is-used-requires c κs = c .before .before .before .pre .3 .laid .few
 returns : tie.Need-returns
 returns c =
     let s = c .before .before .before .before .before in
-    (passed-over (h-used (groupsOf (s .args .held)) (s .args .pair) (sym (c .before .is-used .ensures) ∙ c .if1 .taken)) (s .pre .3 .going), s .pre .3 .laid)
+    (passed-over (h-used (groupsOf (s .args .held)) (s .args .pair) (sym (c .before .is-used .ensures) ∙ c .if1 .taken)) (s .pre .3 .going), s .pre .3 .laid, s .pre .5)
 
 is-used-requires-2 : tie.Need-is-used-requires-2
 is-used-requires-2 c κs = c .before .before .before .before .before .pre .3 .laid .few
@@ -25,7 +25,7 @@ is-used-requires-2 c κs = c .before .before .before .before .before .pre .3 .la
 returns-2 : tie.Need-returns-2
 returns-2 c =
     let s = c .before .before .before .before .before .before .before in
-    (passed-over (v-used (groupsOf (s .args .held)) (s .args .pair) (sym (c .before .is-used2 .ensures) ∙ c .if2 .taken)) (s .pre .3 .going), s .pre .3 .laid)
+    (passed-over (v-used (groupsOf (s .args .held)) (s .args .pair) (sym (c .before .is-used2 .ensures) ∙ c .if2 .taken)) (s .pre .3 .going), s .pre .3 .laid, s .pre .5)
 
 group-of-requires : tie.Need-group-of-requires
 group-of-requires c κs =
@@ -55,7 +55,8 @@ returns-3 c =
     let s = c .before .before .before .before .before .before .before .before .before .before .before .before .before .before .before .before in
     let free = neither-used (groupsOf (s .args .held)) (s .args .pair) (sym (c .before .before .before .before .before .before .before .before .before .before .before .before .is-used .ensures) ∙ c .before .before .before .before .before .before .before .before .before .before .before .if1 .left) (sym (c .before .before .before .before .before .before .before .before .before .before .is-used2 .ensures) ∙ c .before .before .before .before .before .before .before .before .before .if2 .left) in
     let r = c .taken .ensures in
-    (on-trial free _ (on-group (c .before .before .before .before .before .before .before .before .group-of .ensures) (c .before .before .before .before .before .trial .ensures)) (r .0), r .1)
+    let tried = c .before .before .before .before .before .trial .ensures in
+    (on-trial free _ (on-group (c .before .before .before .before .before .before .before .before .group-of .ensures) (tried .0)) (r .0), r .1, r .2 _ _ _ (s .pre .5) (tried .1))
 
 pub try-pair-spec : {M : Type 1} → statement M
 try-pair-spec =
