@@ -8,16 +8,17 @@ use borrow.Author.Tests.{not-true, not-false}
 use borrow.Author.Needs.{needs}
 use Rattle.table.proofs.Exact.{sound-exact}
 use Rattle.table.proofs.Kept.{Proper}
+use Rattle.setups.proofs.Known.{remembers-after}
 use Rattle.locations.proofs.Passing.{AfterGroups, groups-begin, array-end, array-stop, array-next, next-workable}
 use Rattle.locations.proofs.pass.fit_all.Statement.{statement}
 use Rattle.locations.proofs.pass.fit_all.Tie as tie
 
 abbrev Inv-loop : tie.InvT-loop
-Inv-loop pic₀ width height stack₀ stones n groups sofar₀ k₀ pic stack sofar k =
+Inv-loop pic₀ width height stack₀ stones n groups setups sofar₀ k₀ pic stack sofar k =
     AfterGroups width height stones (take n groups) pic₀ (sofar₀ .table) k pic sofar × (k ≤ n) × (length pic ≡ length pic₀) × (length stack ≡ length stack₀)
 
 abbrev μ-loop : tie.MeasureT-loop
-μ-loop pic₀ width height stack₀ stones n groups sofar₀ k₀ pic stack sofar k = n - k
+μ-loop pic₀ width height stack₀ stones n groups setups sofar₀ k₀ pic stack sofar k = n - k
 
 -- the table is proper, by its type and by the test
 module _ (s : tie.Start Inv-loop μ-loop) where
@@ -49,13 +50,19 @@ mul-t c = search needs
 array-copy-out-t : tie.Need-array-copy-out-t Inv-loop μ-loop
 array-copy-out-t c = search needs
 
+mul-setup : tie.Need-mul-setup Inv-loop μ-loop
+mul-setup c = search needs
+
+array-copy-out-setup : tie.Need-array-copy-out-setup Inv-loop μ-loop
+array-copy-out-setup c = search needs
+
 fit-one-requires : tie.Need-fit-one-requires Inv-loop μ-loop
 fit-one-requires c κs =
-    let s = c .before .before .before .before .before .before .before .before in
-    let l = c .before .before .before .before .loop in
+    let s = c .before .before .before .before .before .before .before .before .before in
+    let l = c .before .before .before .before .before .loop in
     let A = l .inv .0 in
-    let low = c .before .before .before .loop-test .taken in
-    (next-workable (s .pre .0) (A .kept) (omega (arith, l .inv .3)), s .pre .2 (l .k) low, A .held, omega (arith, A .few, low, s .pre .1))
+    let low = c .before .before .before .before .loop-test .taken in
+    (next-workable (s .pre .0) (A .kept) (omega (arith, l .inv .3)), s .pre .2 (l .k) low, A .held, omega (arith, A .few, low, s .pre .1), remembers-after _ _ (A .kept .white) (s .pre .3 (l .k)))
 
 is-sound-requires : tie.Need-is-sound-requires Inv-loop μ-loop
 is-sound-requires c κs = search needs
@@ -68,11 +75,11 @@ same-length-2 c = search needs
 
 returns : tie.Need-returns Inv-loop μ-loop
 returns c =
-    let s = c .before .before .before .before .before .before .before .before .before .before .before .before .before .before .before in
-    let l = c .before .before .before .before .before .before .before .before .before .before .before .loop in
+    let s = c .before .before .before .before .before .before .before .before .before .before .before .before .before .before .before .before in
+    let l = c .before .before .before .before .before .before .before .before .before .before .before .before .loop in
     let done = c .before .before .before .before .before .before .fit-one in
-    let low = c .before .before .before .before .before .before .before .before .before .before .loop-test .taken in
-    let none = c .before .before .before .before .before .before .before .before .before .before .before .before .no-locations .ensures in
+    let low = c .before .before .before .before .before .before .before .before .before .before .before .loop-test .taken in
+    let none = c .before .before .before .before .before .before .before .before .before .before .before .before .before .no-locations .ensures in
     let stops = sym (c .before .is-sound .ensures) ∙ not-true _ (c .if1 .taken) in
     let F = array-stop (s .args .t7) (s .args .n) (omega (arith, long s, s .pre .1)) (l .inv .0) low (done .ensures) stops in
     (rw (none .2) at F, done .ensures .laid)
@@ -85,10 +92,10 @@ loop-less c = search needs
 
 loop-again : tie.Need-loop-again Inv-loop μ-loop
 loop-again c =
-    let s = c .before .before .before .before .before .before .before .before .before .before .before .before .before .before .before in
-    let l = c .before .before .before .before .before .before .before .before .before .before .before .loop in
+    let s = c .before .before .before .before .before .before .before .before .before .before .before .before .before .before .before .before in
+    let l = c .before .before .before .before .before .before .before .before .before .before .before .before .loop in
     let done = c .before .before .before .before .before .before .fit-one in
-    let low = c .before .before .before .before .before .before .before .before .before .before .loop-test .taken in
+    let low = c .before .before .before .before .before .before .before .before .before .before .before .loop-test .taken in
     let goes = sym (c .before .is-sound .ensures) ∙ not-false _ (c .if1 .left) in
     let W = next-workable (s .pre .0) (l .inv .0 .kept) (le-refl _) in (
       array-next (s .args .t7) (s .args .n) (omega (arith, long s, s .pre .1)) (l .inv .0) low (done .ensures) (W .roomy) (s .pre .2 (l .k) low) goes,
@@ -121,6 +128,8 @@ fit-all-spec =
     loop-holds
     mul-t
     array-copy-out-t
+    mul-setup
+    array-copy-out-setup
     fit-one-requires
     is-sound-requires
     same-length
