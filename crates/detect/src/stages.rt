@@ -12,6 +12,7 @@ use table::empty;
 ghost use Prim.Native.Nat.{_*_, _≤_};
 ghost use lib.ListN.{length};
 ghost use Rattle.table.specs.Table.{emptyTable};
+ghost use Rattle.setups.specs.Remember.{AllRemember};
 ghost use Rattle.fourth_corner.specs.Corner.{Workable};
 ghost use Rattle.marks.specs.InWork.{InWork};
 ghost use Rattle.marks.specs.Search as search;
@@ -19,7 +20,7 @@ ghost use Rattle.groupings.specs.Held as groups;
 ghost use Rattle.detect.specs.Telling.{outcome, LaidOut};
 ghost use Rattle.detect.specs.Stages.{Named, Finishes, Gathers, Finds};
 
-// What the groups of the marks come to: the final pass over them, then the bounds.
+// What the groups of the marks come to: the final pass over them, by what their trials set up, then the bounds.
 fn finish(
     pic: &mut [u8],
     width: usize,
@@ -28,7 +29,7 @@ fn finish(
     marks: Marks,
     found: Groupings,
 ) -> Detection
-    requires { ⌜ Workable (now pic) width height (length (now stack)) (marks .table) × search.Laid marks × groups.Stones (marks .stones) (marks .n) × groups.Laid found × Named (marks .n) (groups.groupsOf found) ⌝ }
+    requires { ⌜ Workable (now pic) width height (length (now stack)) (marks .table) × search.Laid marks × groups.Stones (marks .stones) (marks .n) × groups.Laid found × Named (marks .n) (groups.groupsOf found) × AllRemember (now pic) width height (found .setups) ⌝ }
     ensures { λ r. ⌜ Finishes width height (search.stonesOf marks) (now (pic .entry)) (marks .table) (groups.outcome found) (outcome (r .findings)) (now (pic .exit)) (r .table) × LaidOut (r .findings) ⌝ }
 {
     let table = marks.table;
@@ -38,7 +39,9 @@ fn finish(
         Verdict::Sound => {
             let stones = marks.stones;
             let groups = found.groups;
-            let located = fit_all(pic, width, height, stack, table, stones, groups, found.n);
+            let setups = found.setups;
+            let n = found.n;
+            let located = fit_all(pic, width, height, stack, table, stones, groups, setups, n);
             with_locations(marks.n, located)
         }
     }

@@ -20,9 +20,9 @@ enum-told c = search needs
 
 fit-all-requires : tie.Need-fit-all-requires
 fit-all-requires c κs =
-    let s = c .before .before .before .before .before .before .before .before .before in
+    let s = c .before .before .before .before .before .before .before .before .before .before in
     let found = s .args .found in
-    (s .pre .0, s .pre .3 .few, all-ready (found .groups) (found .n) (groups-long found (s .pre .3)) (s .pre .2) (s .pre .4))
+    (s .pre .0, s .pre .3 .few, all-ready (found .groups) (found .n) (groups-long found (s .pre .3)) (s .pre .2) (s .pre .4), s .pre .5)
 
 with-locations-requires : tie.Need-with-locations-requires
 with-locations-requires c κs = c .before .before .before .before .fit-all .ensures .1
@@ -43,10 +43,10 @@ same-length-2 c = search needs
 returns-2 : tie.Need-returns-2
 unfolding told
 returns-2 c =
-    let s = c .before .before .before .before .before .before .before .before .before .before .before .before .before .before .before in
+    let s = c .before .before .before .before .before .before .before .before .before .before .before .before .before .before .before .before in
     let r = c .with-locations .ensures in
     let found = s .args .found in
-    let sound = ap (λ (v : Verdict). told v (groupsOf found)) (c .before .before .before .before .before .before .before .before .before .before .enum-told .given .1) in
+    let sound = ap (λ (v : Verdict). told v (groupsOf found)) (c .before .before .before .before .before .before .before .before .before .before .before .enum-told .given .1) in
     (rw (r .2) (finish-fits (s .args .marks) (groupsOf found) (marks-long (s .args .marks) (s .pre .1)) sound (s .pre .4) (c .before .before .before .before .before .fit-all .ensures .0) (r .0)), r .1)
 
 pub finish-spec : {M : Type 1} → statement M

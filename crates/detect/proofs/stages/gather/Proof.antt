@@ -31,7 +31,7 @@ finish-requires c κs =
     let marks = s .args .marks in
     let long = length-take-le (marks .n) (marks .stones) (marks-long marks (s .pre .2)) in
     let N = subst (λ (k : ℕ). Named k (groupsOf (G .result))) long (array-named (G .result) (G .ensures .1) (G .ensures .0)) in
-    (still-workable (s .pre .0) (G .kept .1 .1 .1 .0), s .pre .2, s .pre .3, G .ensures .1, N)
+    (still-workable (s .pre .0) (G .kept .1 .1 .1 .0), s .pre .2, s .pre .3, G .ensures .1, N, G .ensures .2)
 
 returns : tie.Need-returns
 unfolding told
