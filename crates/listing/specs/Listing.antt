@@ -4,6 +4,7 @@ use mathlib.Core.List.{List, [], _∷_, _++_}
 use lib.ListN.{length}
 use Rattle.refusals.specs.Finding.{Finding, found, refused}
 use Rattle.bounds.specs.declared.Grid.{Grid}
+use Rattle.detect.specs.Telling.{Telling}
 use Rattle.report.specs.Lines.{refusedLine, countLines, gridLine}
 use Rattle.report.specs.declared.Line.{Line}
 
@@ -16,7 +17,7 @@ unfoldable pub gridLines : List Grid → List ℕ
 gridLines [] = []
 gridLines (g ∷ more) = gridLine (lineOf g) ++ gridLines more
 
--- the whole text: the counts of capstones and of grids and a line per grid, or the number of a refusal
-unfoldable pub listing : ℕ → Finding (List Grid) → List ℕ
-listing capstones (found grids) = countLines capstones (length grids) ++ gridLines grids
-listing capstones (refused n) = refusedLine n
+-- the whole text of what detect tells: the counts of capstones and of grids and a line per grid, or the number of a refusal
+unfoldable pub listing : Finding Telling → List ℕ
+listing (found t) = countLines (t .stones) (length (t .grids)) ++ gridLines (t .grids)
+listing (refused n) = refusedLine n

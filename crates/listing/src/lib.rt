@@ -1,5 +1,6 @@
 // All that `locate` prints of what was found, made in a buffer that the caller lends (document 01, "Program `locate`").
 use bounds::Grid;
+use detect::Findings;
 use picture::Verdict;
 use refusals::number_of;
 use report::Line;
@@ -10,8 +11,8 @@ ghost use mathlib.Core.Path.{_≡_};
 ghost use Prim.Native.Nat.{_+_, _*_, _≤_};
 ghost use lib.ListN.{length, take};
 ghost use Rattle.refusals.specs.Finding.{found};
-ghost use Rattle.laid.specs.Laid.{told};
 ghost use Rattle.report.specs.Puts.{Puts};
+ghost use Rattle.detect.specs.Telling.{tells, outcome};
 ghost use Rattle.listing.specs.Listing.{lineOf, gridLines, listing};
 
 // What is told of a grid.
@@ -47,27 +48,23 @@ fn put_grids(grids: [Grid; 31], n: usize, out: &mut [u8], at: usize) -> usize
 }
 
 // The counts, then the grids.
-fn put_found(capstones: usize, grids: [Grid; 31], n: usize, out: &mut [u8]) -> usize
+fn put_found(stones: usize, grids: [Grid; 31], n: usize, out: &mut [u8]) -> usize
     requires { ⌜ (n ≤ 31) × (7374 ≤ length (now out)) ⌝ }
-    ensures { λ r. ⌜ Puts 7374 (listing capstones (found (take n grids))) (now (out .entry)) 0 (now (out .exit)) r ⌝ }
+    ensures { λ r. ⌜ Puts 7374 (listing (tells stones (found (take n grids)))) (now (out .entry)) 0 (now (out .exit)) r ⌝ }
 {
-    let after = put_counts(capstones, n, out, 0);
+    let after = put_counts(stones, n, out, 0);
     put_grids(grids, n, out, after)
 }
 
 // What was found, or why there is a refusal. The longest text has 58 bytes of counts, and 31 lines.
-pub fn put_findings(
-    capstones: usize,
-    grids: [Grid; 31],
-    n: usize,
-    verdict: Verdict,
-    out: &mut [u8],
-) -> usize
-    requires { ⌜ (n ≤ 31) × (7374 ≤ length (now out)) ⌝ }
-    ensures { λ r. ⌜ Puts 7374 (listing capstones (told verdict (take n grids))) (now (out .entry)) 0 (now (out .exit)) r ⌝ }
+pub fn put_findings(findings: Findings, out: &mut [u8]) -> usize
+    requires { ⌜ (findings .n ≤ 31) × (7374 ≤ length (now out)) ⌝ }
+    ensures { λ r. ⌜ Puts 7374 (listing (outcome findings)) (now (out .entry)) 0 (now (out .exit)) r ⌝ }
 {
+    let grids = findings.grids;
+    let verdict = findings.verdict;
     match verdict {
-        Verdict::Sound => put_found(capstones, grids, n, out),
+        Verdict::Sound => put_found(findings.stones, grids, findings.n, out),
         Verdict::Refused(why) => put_refused(number_of(why), out, 0),
     }
 }

@@ -2,6 +2,7 @@
 use native.Mathlib.Omega.{arith}
 use borrow.Author.Needs.{needs}
 use Rattle.laid.specs.Laid.{told}
+use Rattle.detect.specs.Telling.{tells}
 use Rattle.report.proofs.Putting.{puts-within}
 use Rattle.listing.specs.Listing.{listing}
 use Rattle.listing.proofs.put_findings.Statement.{statement}
@@ -33,7 +34,7 @@ same-length-2 : tie.Need-same-length-2
 same-length-2 c = search needs
 
 returns-2 : tie.Need-returns-2
-unfolding told listing
+unfolding told tells listing
 returns-2 c = rw (c .before .before .before .before .before .before .verdict .given .1, ← c .before .before .before .before .number-of .ensures) (puts-within 7374 (omega arith) (c .before .before .put-refused .ensures))
 
 pub put-findings-spec : {M : Type 1} → statement M
