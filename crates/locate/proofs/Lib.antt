@@ -1,0 +1,4 @@
+pub mod Printing
+pub mod Determined
+mod Tests
+pub mod Refusals
