@@ -1,14 +1,16 @@
 -- Sums of scores: they can be taken part by part. Assumes nothing.
-use Prim.Native.Nat.{_+_, _≤_}
+use Prim.Native.Nat.{ℕ, _+_, _≤_}
 use native.Mathlib.Nat.{le-refl}
+use native.Mathlib.Numerals.{add-one}
 use native.Mathlib.Omega.{arith}
-use mathlib.Core.Path.{_≡_, refl, ap}
+use mathlib.Core.Path.{_≡_, refl, ap, _∙_}
 use lib.IntN.{ℤ, pos, +ℤ-idl, +ℤ-idr, +ℤ-assoc, negℤ-+ℤ}
 use Rattle.refusals.specs.Finding.{Finding, found, refused}
 use Rattle.sizes.proofs.Size.{size-add, size-neg}
-use Rattle.cell_fitness.specs.Score.{_⊞_, opposite, extent}
+use Rattle.cell_fitness.specs.Score.{_⊞_, several, opposite, extent}
 use Rattle.cell_fitness.specs.Scores.{meaning, Scores}
 use Rattle.cell_fitness.specs.declared.Fitness.{Fitness}
+use Rattle.cell_fitness.specs.declared.Fitness.the-variants.{Score}
 
 pub plus-assoc : (a b c : Finding ℤ) → a ⊞ b ⊞ c ≡ a ⊞ (b ⊞ c)
 unfolding _⊞_
@@ -51,3 +53,20 @@ scores-sum f g r e = record { is = e; small = rw e (extent-plus f g) }
 -- an answer that means an opposite
 pub scores-opposite : (f : Finding ℤ) (r : Fitness) → meaning r ≡ opposite f → Scores (opposite f) (extent f) r
 scores-opposite f r e = record { is = e; small = rw (e, extent-opposite) (le-refl (extent f)) }
+
+-- answers taken one after the other
+pub none-yet : (f : ℕ → Finding ℤ) → Scores (several f 0) 0 (Score (pos 0))
+unfolding several extent
+none-yet f = record { is = refl; small = le-refl 0 }
+
+pub one-more : (f : ℕ → Finding ℤ) (k : ℕ) {most more n : ℕ} {before this r : Fitness} → Scores (several f k) most before → Scores (f k) more this → Scores (meaning before ⊞ meaning this) (extent (meaning before) + extent (meaning this)) r → most + more ≤ n → Scores (several f (k + 1)) n r
+unfolding several
+one-more f k p q s few =
+    record {
+      is = s .is ∙ rw (p .is, q .is, add-one);
+      small = let a = s .small in let b = p .small in let d = q .small in omega arith;
+    }
+
+pub three : (f : ℕ → Finding ℤ) → several f 3 ≡ f 0 ⊞ f 1 ⊞ f 2
+unfolding several
+three f = rw (nothing-plus (f 0))

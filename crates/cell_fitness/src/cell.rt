@@ -5,7 +5,7 @@ ghost use lib.IntN.{natAbs};
 ghost use lib.ListN.{length};
 ghost use Rattle.refusals.specs.Finding.{found};
 ghost use Rattle.picture.specs.Sides.{Sized};
-ghost use Rattle.cell_fitness.specs.Seen.{darkAt, darkIn, pointOf, lineOf, cellOf};
+ghost use Rattle.cell_fitness.specs.Seen.{darkAt, darkIn, inset, pointOf, lineOf, cellOf};
 ghost use Rattle.cell_fitness.specs.Scores.{Scores};
 use crate::Fitness;
 use geometry::Perspective;
@@ -56,15 +56,31 @@ fn fitness_point(pic: &[u8], width: usize, height: usize, c: Perspective, u: f64
     }
 }
 
-// Three points of a cell that starts at x, at the height v.
+// How far into a cell its k-th point lies, along either side.
+fn inset(k: usize) -> f64
+    ensures { λ r. ⌜ r ≡ inset k ⌝ }
+{
+    if k == 0 {
+        return 0.3;
+    }
+    if k == 1 {
+        return 0.5;
+    }
+    0.7
+}
+
+// Three points of a cell that starts at x, at the height v. The loops here and below have one call each, so that a compiler writes a whole cell in one piece.
 fn fitness_line(pic: &[u8], width: usize, height: usize, c: Perspective, x: f64, v: f64) -> Fitness
     requires { ⌜ Sized width height (length (now pic)) ⌝ }
     ensures { λ r. ⌜ Scores (lineOf (now (pic .entry)) width height c x v) 3 r ⌝ }
 {
-    let left = fitness_point(pic, width, height, c, x + 0.3, v);
-    let middle = fitness_point(pic, width, height, c, x + 0.5, v);
-    let right = fitness_point(pic, width, height, c, x + 0.7, v);
-    left.plus(middle).plus(right)
+    let mut score = Fitness::Score(0);
+    let mut k: usize = 0;
+    while k < 3 {
+        score = score.plus(fitness_point(pic, width, height, c, x + inset(k), v));
+        k += 1;
+    }
+    score
 }
 
 // The cell in column x of line y: how many of its nine points are dark, less those that are white.
@@ -81,8 +97,11 @@ pub fn fitness_cell(
 {
     let left = x as f64;
     let top = y as f64;
-    let upper = fitness_line(pic, width, height, c, left, top + 0.3);
-    let middle = fitness_line(pic, width, height, c, left, top + 0.5);
-    let lower = fitness_line(pic, width, height, c, left, top + 0.7);
-    upper.plus(middle).plus(lower)
+    let mut score = Fitness::Score(0);
+    let mut k: usize = 0;
+    while k < 3 {
+        score = score.plus(fitness_line(pic, width, height, c, left, top + inset(k)));
+        k += 1;
+    }
+    score
 }
