@@ -5,34 +5,16 @@ use mathlib.Core.List.{List, [], _∷_}
 use mathlib.Core.Logic.{_⊎_}
 use lib.IntN.{ℤ}
 use lib.Ieee.{Float}
-use lib.ListN.{length, getD}
+use lib.ListN.{length}
 use Rattle.refusals.specs.Numbers.{numberOf}
-use Rattle.geometry.specs.declared.Perspective.{Perspective}
-use Rattle.table.specs.Table.{entryOf}
-use Rattle.table.specs.declared.Entry.{Entry}
 use Rattle.table.specs.declared.Table.{Table}
 use Rattle.grids.specs.Grid.{meaning}
 use Rattle.grids.specs.declared.Fit.{Fit}
 use Rattle.grids.specs.declared.Fit.the-variants.{Grid, NoGrid, Refused}
 use Rattle.fit.specs.Fit.{FitPost}
-use Rattle.exports_grids.specs.Put.{putAt, putEach}
+use Rattle.told_places.specs.Put.{putAt}
+use Rattle.told_places.specs.Values.{floatsOf, allEntries}
 use Rattle.exports_grids.specs.Lent.{tableOf, groupOf}
-
--- a place of the table: a number, in the order of their ages, and an entry
-abbrev pub entryNumbers : ℕ → Entry → List ℕ
-entryNumbers age e = age ∷ e .x ∷ e .y ∷ e .px ∷ []
-
--- the k-th of them
-abbrev pub tableNumbers : Table → ℕ → List ℕ
-tableNumbers T k = entryNumbers (getD (T .age) k 0) (entryOf T k)
-
--- all 251 of them
-abbrev pub allEntries : Table → List ℕ → List ℕ
-allEntries T s = putEach (tableNumbers T) 4 251 0 s
-
--- the eight coefficients of a perspective
-abbrev pub floatsOf : Perspective → List Float
-floatsOf c = c .c0 ∷ c .c1 ∷ c .c2 ∷ c .c3 ∷ c .c4 ∷ c .c5 ∷ c .c6 ∷ c .c7 ∷ []
 
 -- a table, how many entries it has, and a grid's size
 abbrev pub tablePut : Table → ℕ → List ℕ → List ℕ

@@ -1,41 +1,17 @@
 // What a group comes to, into lent slices.
-use geometry::Perspective;
 use grids::Fit;
 use grids::SkewedGridLocation;
 use refusals::number_of;
-use table::Entry;
 use table::Table;
+use told_places::coefficients::put_floats;
+use told_places::entries::put_entries;
 ghost use mathlib.Core.Path.{_≡_};
 ghost use mathlib.Core.List.{[], _∷_};
-ghost use Prim.Native.Nat.{_+_, _≤_};
+ghost use Prim.Native.Nat.{_≤_};
 ghost use lib.ListN.{length};
-ghost use Rattle.exports_grids.specs.Put.{putAt};
-ghost use Rattle.exports_grids.specs.Tells.{entryNumbers, allEntries, floatsOf, tablePut, statusOf, countsAfter, floatsAfter};
-
-// A number by age, and an entry, from a place on.
-fn put_entry(age: u8, entry: Entry, at: usize, out: &mut [usize])
-    requires { ⌜ at + 4 ≤ length (now out) ⌝ }
-    ensures { λ _. ⌜ now (out .exit) ≡ putAt (now (out .entry)) at (entryNumbers age entry) ⌝ }
-{
-    out[at] = age as usize;
-    out[at + 1] = entry.x as usize;
-    out[at + 2] = entry.y as usize;
-    out[at + 3] = entry.px as usize;
-}
-
-// All 251 places of a table.
-fn put_entries(table: Table, out: &mut [usize])
-    requires { ⌜ 1004 ≤ length (now out) ⌝ }
-    ensures { λ _. ⌜ now (out .exit) ≡ allEntries table (now (out .entry)) ⌝ }
-{
-    let mut k: usize = 0;
-    while k < 251 {
-        let age = table.age[k];
-        let entry = table.entries[k];
-        put_entry(age, entry, k * 4, out);
-        k += 1;
-    }
-}
+ghost use Rattle.told_places.specs.Put.{putAt};
+ghost use Rattle.told_places.specs.Values.{floatsOf};
+ghost use Rattle.exports_grids.specs.Tells.{tablePut, statusOf, countsAfter, floatsAfter};
 
 // How many entries there are, and a grid's size.
 fn put_counts(entries: usize, size: usize, out: &mut [usize])
@@ -55,21 +31,6 @@ fn put_table(table: Table, size: usize, out: &mut [usize])
     put_counts(table.n, size, out);
 }
 
-// Eight coefficients.
-fn put_floats(c: Perspective, out: &mut [f64])
-    requires { ⌜ 8 ≤ length (now out) ⌝ }
-    ensures { λ _. ⌜ now (out .exit) ≡ putAt (now (out .entry)) 0 (floatsOf c) ⌝ }
-{
-    out[0] = c.c0;
-    out[1] = c.c1;
-    out[2] = c.c2;
-    out[3] = c.c3;
-    out[4] = c.c4;
-    out[5] = c.c5;
-    out[6] = c.c6;
-    out[7] = c.c7;
-}
-
 // A grid, and the table that fitting it left.
 fn put_grid(grid: SkewedGridLocation, left: Table, counts: &mut [usize], floats: &mut [f64]) -> u8
     requires { ⌜ (1006 ≤ length (now counts)) × (8 ≤ length (now floats)) ⌝ }
@@ -78,7 +39,7 @@ fn put_grid(grid: SkewedGridLocation, left: Table, counts: &mut [usize], floats:
     let size = grid.size as usize;
     let c = grid.c;
     put_table(left, size, counts);
-    put_floats(c, floats);
+    put_floats(c, 0, floats);
     0
 }
 

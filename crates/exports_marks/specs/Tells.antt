@@ -6,27 +6,17 @@ use mathlib.Core.Logic.{_⊎_}
 use lib.IntN.{ℤ}
 use lib.Ieee.{Float}
 use lib.ListN.{length, getD}
-use Rattle.refusals.specs.Numbers.{numberOf}
-use Rattle.picture.specs.declared.Verdict.{Verdict}
-use Rattle.picture.specs.declared.Verdict.the-variants.{Sound, Refused}
-use Rattle.geometry.specs.declared.Perspective.{Perspective}
-use Rattle.table.specs.Table.{entryOf}
-use Rattle.table.specs.declared.Entry.{Entry}
-use Rattle.table.specs.declared.Table.{Table}
 use Rattle.capstones.specs.Blank.{noStone}
 use Rattle.capstones.specs.declared.CapStone.{CapStone}
 use Rattle.marks.specs.OfBitmap.{OfBitmap}
 use Rattle.marks.specs.declared.search.Marks.{Marks}
-use Rattle.exports_marks.specs.Put.{putAt, putEach}
+use Rattle.told_places.specs.Put.{putAt, putEach}
+use Rattle.told_places.specs.Values.{floatsOf, allEntries, statusOf}
 
 -- a stone's four corners and its centre, x before y
 abbrev pub placesOf : CapStone → List ℤ
 placesOf s =
     s .corner0 .x ∷ s .corner0 .y ∷ s .corner1 .x ∷ s .corner1 .y ∷ s .corner2 .x ∷ s .corner2 .y ∷ s .corner3 .x ∷ s .corner3 .y ∷ s .center .x ∷ s .center .y ∷ []
-
--- the eight coefficients of its perspective
-abbrev pub floatsOf : Perspective → List Float
-floatsOf c = c .c0 ∷ c .c1 ∷ c .c2 ∷ c .c3 ∷ c .c4 ∷ c .c5 ∷ c .c6 ∷ c .c7 ∷ []
 
 -- the k-th of an array
 abbrev pub stoneAt : List CapStone → ℕ → CapStone
@@ -38,23 +28,6 @@ allPlaces stones s = putEach (λ (k : ℕ). placesOf (stoneAt stones k)) 10 64 0
 
 abbrev pub allFloats : List CapStone → List Float → List Float
 allFloats stones s = putEach (λ (k : ℕ). floatsOf (stoneAt stones k .c)) 8 64 0 s
-
--- a place of the table: a number, in the order of their ages, and an entry
-abbrev pub entryNumbers : ℕ → Entry → List ℕ
-entryNumbers age e = age ∷ e .x ∷ e .y ∷ e .px ∷ []
-
--- the k-th of them
-abbrev pub tableNumbers : Table → ℕ → List ℕ
-tableNumbers T k = entryNumbers (getD (T .age) k 0) (entryOf T k)
-
--- all 251 of them
-abbrev pub allEntries : Table → List ℕ → List ℕ
-allEntries T s = putEach (tableNumbers T) 4 251 0 s
-
--- what the call returns: 0, or the number of a refusal
-unfoldable pub statusOf : Verdict → ℕ
-statusOf Sound = 0
-statusOf (Refused why) = numberOf why
 
 -- the call leaves the picture pic′ and returns a number; `places`, `floats` and `counts` were lent, and hold their values
 pub data Tells (pic : List ℕ) (width height lent : ℕ) (pic′ : List ℕ) (places places′ : List ℤ) (floats floats′ : List Float) (counts counts′ : List ℕ) (number : ℕ) : Type 0 where

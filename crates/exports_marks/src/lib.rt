@@ -1,25 +1,25 @@
 // The search for marks, for callers in C and in Rust: the first half of detect. It asks nothing of its caller but that each pointer with
 // its length is a slice.
-mod entries;
 mod stones;
 
-use crate::entries::put_counts;
-use crate::entries::put_entries;
 use crate::stones::put_stones;
 use marks::search_bitmap;
-use picture::Verdict;
-use refusals::number_of;
+use told_places::entries::put_entries;
+use told_places::status_of;
 ghost use mathlib.Core.Path.{_≡_};
+ghost use mathlib.Core.List.{[], _∷_};
+ghost use Prim.Native.Nat.{_≤_};
 ghost use lib.ListN.{length};
-ghost use Rattle.exports_marks.specs.Tells.{statusOf, Tells};
+ghost use Rattle.told_places.specs.Put.{putAt};
+ghost use Rattle.exports_marks.specs.Tells.{Tells};
 
-fn status_of(verdict: Verdict) -> u8
-    ensures { λ r. ⌜ r ≡ statusOf verdict ⌝ }
+// How many entries and how many stones there are.
+fn put_counts(entries: usize, stones: usize, out: &mut [usize])
+    requires { ⌜ 1006 ≤ length (now out) ⌝ }
+    ensures { λ _. ⌜ now (out .exit) ≡ putAt (now (out .entry)) 1004 (entries ∷ stones ∷ []) ⌝ }
 {
-    match verdict {
-        Verdict::Sound => 0,
-        Verdict::Refused(why) => number_of(why),
-    }
+    out[1004] = entries;
+    out[1005] = stones;
 }
 
 // Finds all marks of a bitmap, from an empty region table: 0, or the refusal 1, 2, 3, 4, 11, 12 or 13. The stack has an entry for each

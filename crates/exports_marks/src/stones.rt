@@ -1,23 +1,12 @@
 // Stones into lent slices.
 use capstones::CapStone;
-use geometry::Perspective;
-use points::Point;
+use told_places::coefficients::put_floats;
+use told_places::spots::put_point;
 ghost use mathlib.Core.Path.{_≡_};
 ghost use Prim.Native.Nat.{_+_, _≤_};
-ghost use lib.ListN.{length, set};
-ghost use Rattle.exports_marks.specs.Put.{putAt};
-ghost use Rattle.exports_marks.specs.Tells.{placesOf, floatsOf, allPlaces, allFloats};
-
-// A point's coordinates, from a place on.
-fn put_point(p: Point, at: usize, out: &mut [i32])
-    requires { ⌜ at + 2 ≤ length (now out) ⌝ }
-    ensures { λ _. ⌜ now (out .exit) ≡ set (set (now (out .entry)) at (p .x)) (at + 1) (p .y) ⌝ }
-{
-    let x = p.x;
-    let y = p.y;
-    out[at] = x;
-    out[at + 1] = y;
-}
+ghost use lib.ListN.{length};
+ghost use Rattle.told_places.specs.Put.{putAt};
+ghost use Rattle.exports_marks.specs.Tells.{placesOf, allPlaces, allFloats};
 
 // A stone's corners and its centre, from a place on.
 fn put_places(stone: CapStone, at: usize, out: &mut [i32])
@@ -34,21 +23,6 @@ fn put_places(stone: CapStone, at: usize, out: &mut [i32])
     put_point(p2, at + 4, out);
     put_point(p3, at + 6, out);
     put_point(p4, at + 8, out);
-}
-
-// The coefficients of its perspective, from a place on.
-fn put_floats(c: Perspective, at: usize, out: &mut [f64])
-    requires { ⌜ at + 8 ≤ length (now out) ⌝ }
-    ensures { λ _. ⌜ now (out .exit) ≡ putAt (now (out .entry)) at (floatsOf c) ⌝ }
-{
-    out[at] = c.c0;
-    out[at + 1] = c.c1;
-    out[at + 2] = c.c2;
-    out[at + 3] = c.c3;
-    out[at + 4] = c.c4;
-    out[at + 5] = c.c5;
-    out[at + 6] = c.c6;
-    out[at + 7] = c.c7;
 }
 
 // All 64 stones of an array.

@@ -15,7 +15,7 @@ use Rattle.match_capstones.specs.declared.Pair.{Pair}
 use Rattle.match_capstones.specs.declared.Ranked.{Ranked}
 use Rattle.match_capstones.specs.declared.Ranking.{Ranking}
 use Rattle.match_capstones.specs.declared.Ranking.the-variants.{Pairs, Refused}
-use Rattle.exports_marks.specs.Put.{putEach}
+use Rattle.told_places.specs.Put.{putEach}
 
 -- the point whose coordinates stand from a place on
 unfoldable pub centerAt : List ℤ → ℕ → Point

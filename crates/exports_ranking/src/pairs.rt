@@ -6,7 +6,7 @@ ghost use mathlib.Core.Path.{_≡_};
 ghost use mathlib.Core.List.{[], _∷_};
 ghost use Prim.Native.Nat.{_+_, _≤_};
 ghost use lib.ListN.{length, set};
-ghost use Rattle.exports_marks.specs.Put.{putAt};
+ghost use Rattle.told_places.specs.Put.{putAt};
 ghost use Rattle.exports_ranking.specs.Ranks.{allPairs, statusOf, countPut};
 
 // A pair's two indices, from a place on.

@@ -4,7 +4,7 @@ use mathlib.Core.List.{List, [], _∷_}
 use mathlib.Core.Logic.{inl, inr}
 use Prim.Native.Nat.{ℕ}
 use borrow.Author.Needs.{needs}
-use Rattle.exports_marks.specs.Put.{putAt}
+use Rattle.told_places.specs.Put.{putAt}
 use Rattle.exports_marks.specs.Tells.{short, told}
 use Rattle.exports_marks.proofs.elmetzhur_capstones.Statement.{statement}
 use Rattle.exports_marks.proofs.elmetzhur_capstones.Tie as tie

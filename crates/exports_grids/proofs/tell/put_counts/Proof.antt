@@ -1,7 +1,7 @@
 -- `put_counts` writes two numbers behind the entries. Assumes nothing.
 use mathlib.Core.Path.{refl}
 use borrow.Author.Needs.{needs}
-use Rattle.exports_grids.specs.Put.{putAt}
+use Rattle.told_places.specs.Put.{putAt}
 use Rattle.exports_grids.proofs.tell.put_counts.Statement.{statement}
 use Rattle.exports_grids.proofs.tell.put_counts.Tie as tie
 

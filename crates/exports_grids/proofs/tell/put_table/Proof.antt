@@ -3,7 +3,7 @@ use mathlib.Core.Path.{_∙_, ap}
 use mathlib.Core.List.{List, [], _∷_}
 use Prim.Native.Nat.{ℕ}
 use borrow.Author.Needs.{needs}
-use Rattle.exports_grids.specs.Put.{putAt}
+use Rattle.told_places.specs.Put.{putAt}
 use Rattle.exports_grids.proofs.tell.put_table.Statement.{statement}
 use Rattle.exports_grids.proofs.tell.put_table.Tie as tie
 

@@ -1,6 +1,6 @@
 -- `put_places` writes a stone's five points, one behind the other. Assumes nothing.
 use borrow.Author.Needs.{needs}
-use Rattle.exports_marks.proofs.Places.{put-ten}
+use Rattle.told_places.proofs.Places.{put-ten}
 use Rattle.exports_marks.proofs.stones.put_places.Statement.{statement}
 use Rattle.exports_marks.proofs.stones.put_places.Tie as tie
 

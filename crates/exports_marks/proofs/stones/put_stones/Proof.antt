@@ -4,9 +4,10 @@ use native.Mathlib.Omega.{arith}
 use mathlib.Core.Path.{_≡_, refl, sym, _∙_}
 use lib.ListN.{length}
 use borrow.Author.Needs.{needs}
-use Rattle.exports_marks.specs.Put.{putEach}
-use Rattle.exports_marks.specs.Tells.{placesOf, floatsOf, stoneAt, allPlaces, allFloats}
-use Rattle.exports_marks.proofs.Places.{each-next, each-last}
+use Rattle.told_places.specs.Put.{putEach}
+use Rattle.told_places.specs.Values.{floatsOf}
+use Rattle.exports_marks.specs.Tells.{placesOf, stoneAt, allPlaces, allFloats}
+use Rattle.told_places.proofs.Places.{each-next, each-last}
 use Rattle.exports_marks.proofs.stones.put_stones.Statement.{statement}
 use Rattle.exports_marks.proofs.stones.put_stones.Tie as tie
 

@@ -2,7 +2,7 @@
 use native.Mathlib.Omega.{arith}
 use lib.ListN.{length-set}
 use borrow.Author.Needs.{needs}
-use Rattle.exports_marks.proofs.Places.{put-two}
+use Rattle.told_places.proofs.Places.{put-two}
 use Rattle.exports_ranking.proofs.pairs.put_pair.Statement.{statement}
 use Rattle.exports_ranking.proofs.pairs.put_pair.Tie as tie
 

@@ -5,8 +5,8 @@ use mathlib.Core.Path.{_≡_, refl, sym, _∙_}
 use lib.ListN.{length, getD}
 use borrow.Author.Needs.{needs}
 use Rattle.match_capstones.specs.Answer.{noPair}
-use Rattle.exports_marks.specs.Put.{putEach}
-use Rattle.exports_marks.proofs.Places.{each-next, each-last}
+use Rattle.told_places.specs.Put.{putEach}
+use Rattle.told_places.proofs.Places.{each-next, each-last}
 use Rattle.exports_ranking.specs.Ranks.{pairNumbers, allPairs}
 use Rattle.exports_ranking.proofs.pairs.put_pairs.Statement.{statement}
 use Rattle.exports_ranking.proofs.pairs.put_pairs.Tie as tie

@@ -2,8 +2,8 @@
 use native.Mathlib.Omega.{arith}
 use lib.ListN.{length-set}
 use borrow.Author.Needs.{needs}
-use Rattle.exports_marks.proofs.stones.put_point.Statement.{statement}
-use Rattle.exports_marks.proofs.stones.put_point.Tie as tie
+use Rattle.told_places.proofs.spots.put_point.Statement.{statement}
+use Rattle.told_places.proofs.spots.put_point.Tie as tie
 
 mul-x : tie.Need-mul-x
 mul-x c = search needs

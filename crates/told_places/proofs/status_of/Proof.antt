@@ -1,8 +1,8 @@
 -- `status_of` tells a verdict by its number. Assumes nothing.
 use borrow.Author.Needs.{needs}
-use Rattle.exports_marks.specs.Tells.{statusOf}
-use Rattle.exports_marks.proofs.status_of.Statement.{statement}
-use Rattle.exports_marks.proofs.status_of.Tie as tie
+use Rattle.told_places.specs.Values.{statusOf}
+use Rattle.told_places.proofs.status_of.Statement.{statement}
+use Rattle.told_places.proofs.status_of.Tie as tie
 
 enum-told : tie.Need-enum-told
 enum-told c = search needs

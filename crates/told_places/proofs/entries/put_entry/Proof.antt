@@ -2,9 +2,9 @@
 use native.Mathlib.Omega.{arith}
 use lib.ListN.{length-set}
 use borrow.Author.Needs.{needs}
-use Rattle.exports_grids.proofs.Places.{put-four}
-use Rattle.exports_grids.proofs.tell.put_entry.Statement.{statement}
-use Rattle.exports_grids.proofs.tell.put_entry.Tie as tie
+use Rattle.told_places.proofs.Places.{put-four}
+use Rattle.told_places.proofs.entries.put_entry.Statement.{statement}
+use Rattle.told_places.proofs.entries.put_entry.Tie as tie
 
 mul-out : tie.Need-mul-out
 mul-out c = search needs

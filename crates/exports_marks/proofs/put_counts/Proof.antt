@@ -1,9 +1,9 @@
 -- `put_counts` writes two numbers behind the entries. Assumes nothing.
 use mathlib.Core.Path.{refl}
 use borrow.Author.Needs.{needs}
-use Rattle.exports_marks.specs.Put.{putAt}
-use Rattle.exports_marks.proofs.entries.put_counts.Statement.{statement}
-use Rattle.exports_marks.proofs.entries.put_counts.Tie as tie
+use Rattle.told_places.specs.Put.{putAt}
+use Rattle.exports_marks.proofs.put_counts.Statement.{statement}
+use Rattle.exports_marks.proofs.put_counts.Tie as tie
 
 slice-write-out : tie.Need-slice-write-out
 slice-write-out c = search needs

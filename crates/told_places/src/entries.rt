@@ -2,11 +2,10 @@
 use table::Entry;
 use table::Table;
 ghost use mathlib.Core.Path.{_≡_};
-ghost use mathlib.Core.List.{[], _∷_};
 ghost use Prim.Native.Nat.{_+_, _≤_};
 ghost use lib.ListN.{length};
-ghost use Rattle.exports_marks.specs.Put.{putAt};
-ghost use Rattle.exports_marks.specs.Tells.{entryNumbers, allEntries};
+ghost use Rattle.told_places.specs.Put.{putAt};
+ghost use Rattle.told_places.specs.Values.{entryNumbers, allEntries};
 
 // A number by age, and an entry, from a place on.
 fn put_entry(age: u8, entry: Entry, at: usize, out: &mut [usize])
@@ -31,13 +30,4 @@ pub fn put_entries(table: Table, out: &mut [usize])
         put_entry(age, entry, k * 4, out);
         k += 1;
     }
-}
-
-// How many entries and how many stones there are.
-pub fn put_counts(entries: usize, stones: usize, out: &mut [usize])
-    requires { ⌜ 1006 ≤ length (now out) ⌝ }
-    ensures { λ _. ⌜ now (out .exit) ≡ putAt (now (out .entry)) 1004 (entries ∷ stones ∷ []) ⌝ }
-{
-    out[1004] = entries;
-    out[1005] = stones;
 }

@@ -2,9 +2,9 @@
 use native.Mathlib.Omega.{arith}
 use lib.ListN.{length-set}
 use borrow.Author.Needs.{needs}
-use Rattle.exports_marks.proofs.Places.{put-eight}
-use Rattle.exports_marks.proofs.stones.put_floats.Statement.{statement}
-use Rattle.exports_marks.proofs.stones.put_floats.Tie as tie
+use Rattle.told_places.proofs.Places.{put-eight}
+use Rattle.told_places.proofs.coefficients.put_floats.Statement.{statement}
+use Rattle.told_places.proofs.coefficients.put_floats.Tie as tie
 
 mul-out : tie.Need-mul-out
 mul-out c = search needs

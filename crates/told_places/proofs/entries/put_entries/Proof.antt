@@ -4,11 +4,11 @@ use native.Mathlib.Omega.{arith}
 use mathlib.Core.Path.{_≡_, refl, sym, _∙_}
 use lib.ListN.{length}
 use borrow.Author.Needs.{needs}
-use Rattle.exports_marks.specs.Put.{putEach}
-use Rattle.exports_marks.specs.Tells.{tableNumbers}
-use Rattle.exports_marks.proofs.Places.{each-next, each-last}
-use Rattle.exports_marks.proofs.entries.put_entries.Statement.{statement}
-use Rattle.exports_marks.proofs.entries.put_entries.Tie as tie
+use Rattle.told_places.specs.Put.{putEach}
+use Rattle.told_places.specs.Values.{tableNumbers}
+use Rattle.told_places.proofs.Places.{each-next, each-last}
+use Rattle.told_places.proofs.entries.put_entries.Statement.{statement}
+use Rattle.told_places.proofs.entries.put_entries.Tie as tie
 
 abbrev Inv-loop : tie.InvT-loop
 Inv-loop out₀ table k₀ out k =
