@@ -1,4 +1,5 @@
 // What is found in the bitmap that was read, and its text.
+use crate::room;
 use detect::Findings;
 use detect::detect;
 use listing::put_findings;
@@ -15,18 +16,11 @@ ghost use Rattle.detect.specs.Telling.{outcome};
 ghost use Rattle.locate.specs.Read.{Read};
 ghost use Rattle.locate.specs.Prints.{Tells, Answers};
 
-// Room for the fills: an entry a pixel.
+// An entry a pixel, for the fills.
 fn stack_room() -> [u32; 16384]
     ensures { λ r. ⌜ length r ≡ mostPixels ⌝ }
 {
     [0u32; 16384]
-}
-
-// Room for a copy of the picture.
-fn scratch_room() -> [u8; 16384]
-    ensures { λ r. ⌜ length r ≡ mostPixels ⌝ }
-{
-    [0u8; 16384]
 }
 
 // Looks for symbols in a bitmap with these sides, whose pixels are the first of the room.
@@ -35,7 +29,7 @@ fn find(pixels: &mut [u8], width: usize, height: usize) -> Findings
     ensures { λ r. ⌜ Tells (record { width = width; height = height; pixels = take (width * height) (now (pixels .entry)) }) (outcome r) × (r .n ≤ 31) ⌝ }
 {
     let mut stack = stack_room();
-    let mut scratch = scratch_room();
+    let mut scratch = room();
     let n = width * height;
     let done = detect(
         &mut pixels[..n],

@@ -10,7 +10,7 @@ ghost use Rattle.locate.specs.Prints.{Responds};
 mod finding;
 mod reading;
 
-// Room for the pixels.
+// A byte a pixel: for the picture, and for the copy that groups are tried on.
 fn room() -> [u8; 16384]
     ensures { λ r. ⌜ length r ≡ mostPixels ⌝ }
 {
@@ -27,6 +27,7 @@ fn respond(out: &mut [u8]) -> usize
     finding::answer(input, &mut pixels, out)
 }
 
+// Writes that text.
 fn main() {
     let mut out = io::large_buffer();
     let n = respond(&mut out);

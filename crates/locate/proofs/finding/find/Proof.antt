@@ -9,8 +9,8 @@ use Rattle.locate.proofs.finding.find.Tie as tie
 stack-room-requires : tie.Need-stack-room-requires
 stack-room-requires c κs = search needs
 
-scratch-room-requires : tie.Need-scratch-room-requires
-scratch-room-requires c κs = search needs
+room-requires : tie.Need-room-requires
+room-requires c κs = search needs
 
 mul-n : tie.Need-mul-n
 mul-n c = search needs
@@ -41,7 +41,7 @@ returns c =
     let s = c .before .before .before .before .before .before .before .before .before .before .before .before .before .args in
     let done = c .before .before .before .before .before .detect .ensures in
     let stack = c .before .before .before .before .before .before .before .before .before .before .before .stack-room .ensures in
-    let scratch = c .before .before .before .before .before .before .before .before .before .before .scratch-room .ensures in
+    let scratch = c .before .before .before .before .before .before .before .before .before .before .room .ensures in
     (tells-of (pictured (s .width) (s .height) (s .pixels .now)) stack scratch (c .before .before .before .before .before .before .empty .ensures) (done .0), done .1 .grids .few)
 
 pub find-spec : {M : Type 1} → statement M
@@ -49,7 +49,7 @@ find-spec =
     tie.close
     (tie.spec
     stack-room-requires
-    scratch-room-requires
+    room-requires
     mul-n
     slice-relend-prefix-detect
     slice-aggregate-detect
