@@ -1,0 +1,27 @@
+-- `put_counts` writes three numbers behind the entries. Assumes nothing.
+use native.Mathlib.Omega.{arith}
+use mathlib.Core.Path.{refl}
+use lib.ListN.{length-set}
+use borrow.Author.Needs.{needs}
+use Rattle.told_places.specs.Put.{putAt}
+use Rattle.exports_detect.proofs.put_counts.Statement.{statement}
+use Rattle.exports_detect.proofs.put_counts.Tie as tie
+
+slice-write-out : tie.Need-slice-write-out
+slice-write-out c = search needs
+
+slice-write-out-2 : tie.Need-slice-write-out-2
+slice-write-out-2 c = simp length-set (omega arith)
+
+slice-write-out-3 : tie.Need-slice-write-out-3
+slice-write-out-3 c = simp length-set (omega arith)
+
+same-length : tie.Need-same-length
+same-length c = search needs
+
+returns : tie.Need-returns
+unfolding putAt
+returns c = refl
+
+pub put-counts-spec : {M : Type 1} → statement M
+put-counts-spec = tie.close (tie.spec slice-write-out slice-write-out-2 slice-write-out-3 same-length returns)
