@@ -1,6 +1,4 @@
 -- `set_up` takes what is known, or sets up. Assumes nothing.
-use native.Mathlib.Omega.{arith}
-use mathlib.Core.Path.{sym}
 use borrow.Author.Needs.{needs}
 use Rattle.setups.proofs.Known.{taken-again}
 use Rattle.setups.proofs.set_up.Statement.{statement}
