@@ -5,7 +5,7 @@ ghost use lib.ListN.{length};
 ghost use Rattle.detect.specs.Telling.{outcome, LaidOut};
 ghost use Rattle.detect.specs.Detect.{DetectPost};
 
-// Finds the stones and the grids of a bitmap: 1, 2, 3, 4, then as its stages meet them. The table that is lent holds afterwards what the last lookup leaves, and after a refusal what it held.
+// Finds the stones and the grids of a bitmap: 1, 2, 3, 4, then as its stages meet them. The table that is lent holds afterwards what the stages leave, and after a refusal what it held.
 pub fn detect(
     pic: &mut [u8],
     width: usize,
