@@ -1,3 +1,4 @@
 pub mod Score
 pub mod Seen
+pub mod Along
 pub mod Scores

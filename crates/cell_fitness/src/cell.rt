@@ -1,48 +1,114 @@
 // One cell: nine points of it, each at the pixel that the perspective maps it to.
 ghost use mathlib.Core.Path.{_≡_};
-ghost use Prim.Native.Nat.{_≤_};
-ghost use lib.IntN.{natAbs};
+ghost use mathlib.Core.Bool.{true, false};
+ghost use lib.IntN.{pos, negsuc};
+ghost use lib.Signed.{ltZ};
+ghost use lib.Ieee.{lt, fin};
 ghost use lib.ListN.{length};
-ghost use Rattle.refusals.specs.Finding.{found};
+ghost use Rattle.rounding.specs.Nearest.{nearestOf};
+ghost use Rattle.geometry.specs.Map.{mapDen, mapX, mapY};
 ghost use Rattle.picture.specs.Sides.{Sized};
-ghost use Rattle.cell_fitness.specs.Seen.{darkAt, darkIn, inset, pointOf, lineOf, cellOf};
+ghost use Rattle.cell_fitness.specs.Seen.{inset, pointOf, lineOf, cellOf};
+ghost use Rattle.cell_fitness.specs.Along.{along, besideAt, seenAt};
 ghost use Rattle.cell_fitness.specs.Scores.{Scores};
 use crate::Fitness;
 use geometry::Perspective;
-use geometry::Spot;
-use points::Point;
+use rounding::Whole;
 
-// 1 where the picture is not white in column x of line y, -1 where it is, and 0 beside it.
-fn dark_at(pic: &[u8], width: usize, height: usize, x: i32, y: i32) -> i32
-    requires { ⌜ Sized width height (length (now pic)) ⌝ }
-    ensures { λ r. ⌜ (r ≡ darkAt (now (pic .entry)) width height x y) × (natAbs r ≤ 1) ⌝ }
+// A coordinate that is not below 0, as a place along a side.
+fn from_zero(i: i32) -> usize
+    requires { ⌜ ltZ i (pos 0) ≡ false ⌝ }
+    ensures { λ r. ⌜ pos r ≡ i ⌝ }
 {
-    if x < 0 {
-        return 0;
-    }
-    if y < 0 {
-        return 0;
-    }
-    let col = x as usize;
-    let line = y as usize;
-    if col >= width {
-        return 0;
-    }
-    if line >= height {
-        return 0;
-    }
-    if pic[line * width + col] == 0 {
-        return -1;
-    }
-    1
+    i as usize
 }
 
-// The pixel at p.
-fn fitness_pixel(pic: &[u8], width: usize, height: usize, p: Point) -> Fitness
-    requires { ⌜ Sized width height (length (now pic)) ⌝ }
-    ensures { λ r. ⌜ Scores (darkIn (now (pic .entry)) width height (found p)) 1 r ⌝ }
+// The place that q, which is above 0, rounds to.
+fn ahead(q: f64) -> usize
+    requires { ⌜ lt (fin false 0 (pos 0)) q ≡ true ⌝ }
+    ensures { λ r. ⌜ r ≡ along (nearestOf q) ⌝ }
 {
-    Fitness::Score(dark_at(pic, width, height, p.x, p.y))
+    match rounding::nearest(q) {
+        Whole::At(i) => from_zero(i),
+        Whole::Off => 2147483649,
+    }
+}
+
+// The same for a q that is not above -1/2.
+fn behind(q: f64) -> usize
+    requires { ⌜ lt (fin true 1 (negsuc 0)) q ≡ false ⌝ }
+    ensures { λ r. ⌜ r ≡ along (nearestOf q) ⌝ }
+{
+    match rounding::nearest(q) {
+        Whole::At(i) => 2147483648,
+        Whole::Off => 2147483649,
+    }
+}
+
+// The place that q rounds to. Most points lie in the picture, so their tests come first.
+fn along(q: f64) -> usize
+    ensures { λ r. ⌜ r ≡ along (nearestOf q) ⌝ }
+{
+    if q > 0.0 {
+        return ahead(q);
+    }
+    if q > -0.5 {
+        return 0;
+    }
+    behind(q)
+}
+
+// Two places of which no pixel has both.
+fn beside(x: usize, y: usize) -> Fitness
+    ensures { λ r. ⌜ Scores (besideAt x y) 1 r ⌝ }
+{
+    if x > 2147483648 {
+        return Fitness::Unplaced;
+    }
+    if y > 2147483648 {
+        return Fitness::Unplaced;
+    }
+    Fitness::Score(0)
+}
+
+// 1 where the picture is not white in column x of line y, -1 where it is, and 0 beside it.
+fn dark_at(pic: &[u8], width: usize, height: usize, x: usize, y: usize) -> Fitness
+    requires { ⌜ Sized width height (length (now pic)) ⌝ }
+    ensures { λ r. ⌜ Scores (seenAt (now (pic .entry)) width height x y) 1 r ⌝ }
+{
+    if x >= width {
+        return beside(x, y);
+    }
+    if y >= height {
+        return beside(x, y);
+    }
+    if pic[y * width + x] == 0 {
+        return Fitness::Score(-1);
+    }
+    Fitness::Score(1)
+}
+
+// What both coordinates of the grid's point (u, v) are divided by.
+fn den_at(c: Perspective, u: f64, v: f64) -> f64
+    ensures { λ r. ⌜ r ≡ mapDen c u v ⌝ }
+{
+    c.c6 * u + c.c7 * v + 1.0
+}
+
+// How far to the right the point lies, before that is rounded.
+fn across(c: Perspective, u: f64, v: f64) -> f64
+    ensures { λ r. ⌜ r ≡ mapX c u v ⌝ }
+{
+    let den = den_at(c, u, v);
+    (c.c0 * u + c.c1 * v + c.c2) / den
+}
+
+// How far down it lies.
+fn down(c: Perspective, u: f64, v: f64) -> f64
+    ensures { λ r. ⌜ r ≡ mapY c u v ⌝ }
+{
+    let den = den_at(c, u, v);
+    (c.c3 * u + c.c4 * v + c.c5) / den
 }
 
 // The grid's point (u, v).
@@ -50,10 +116,9 @@ fn fitness_point(pic: &[u8], width: usize, height: usize, c: Perspective, u: f64
     requires { ⌜ Sized width height (length (now pic)) ⌝ }
     ensures { λ r. ⌜ Scores (pointOf (now (pic .entry)) width height c u v) 1 r ⌝ }
 {
-    match c.map(u, v) {
-        Spot::Placed(p) => fitness_pixel(pic, width, height, p),
-        Spot::Unplaced => Fitness::Unplaced,
-    }
+    let x = along(across(c, u, v));
+    let y = along(down(c, u, v));
+    dark_at(pic, width, height, x, y)
 }
 
 // How far into a cell its k-th point lies, along either side.

@@ -1,31 +1,42 @@
--- `fitness_point` goes by the spot that the point is mapped to. Assumes nothing.
-use native.Mathlib.Omega.{arith}
-use Rattle.cell_fitness.specs.Score.{extent}
-use Rattle.cell_fitness.specs.Seen.{darkIn, pointOf}
+-- `fitness_point` looks at the two places that its point is mapped to. Assumes nothing.
+use mathlib.Core.Path.{ap, _∙_}
+use lib.Ieee.{Float}
+use Rattle.rounding.specs.Nearest.{nearestOf}
+use Rattle.cell_fitness.specs.Along.{along}
+use Rattle.cell_fitness.proofs.Shown.{seen-point}
 use borrow.Author.Needs.{needs}
 use Rattle.cell_fitness.proofs.cell.fitness_point.Statement.{statement}
 use Rattle.cell_fitness.proofs.cell.fitness_point.Tie as tie
 
-map-requires : tie.Need-map-requires
-map-requires c κs = search needs
+across-requires : tie.Need-across-requires
+across-requires c κs = search needs
 
-enum-known-p : tie.Need-enum-known-p
-enum-known-p c = search needs
+along-requires : tie.Need-along-requires
+along-requires c κs = search needs
 
-fitness-pixel-requires : tie.Need-fitness-pixel-requires
-fitness-pixel-requires c κs = search needs
+down-requires : tie.Need-down-requires
+down-requires c κs = search needs
 
-enum-told : tie.Need-enum-told
-enum-told c = search needs
+along-requires-2 : tie.Need-along-requires-2
+along-requires-2 c κs = search needs
+
+dark-at-requires : tie.Need-dark-at-requires
+dark-at-requires c κs = search needs
 
 returns : tie.Need-returns
-unfolding pointOf
-returns c = rw (← c .before .before .before .before .map .ensures, c .before .before .p .given .1) (c .fitness-pixel .ensures)
-
-returns-2 : tie.Need-returns-2
-unfolding pointOf darkIn extent
-returns-2 c = record { is = rw (← c .before .before .map .ensures, c .enum-told .given .1); small = omega arith }
+returns c =
+    let s = c .before .before .before .before .before .before in
+    let x = c .before .before .before .along .ensures ∙ ap (λ (q : Float). along (nearestOf q)) (c .before .before .before .before .across .ensures) in
+    let y = c .before .along2 .ensures ∙ ap (λ (q : Float). along (nearestOf q)) (c .before .before .down .ensures) in
+    rw (seen-point _ _ _ (s .pre .wide) (s .pre .tall) (s .args .c) (s .args .u) (s .args .v), ← x, ← y) (c .dark-at .ensures)
 
 pub fitness-point-spec : {M : Type 1} → statement M
 fitness-point-spec =
-    tie.close (tie.spec map-requires enum-known-p fitness-pixel-requires enum-told returns returns-2)
+    tie.close
+    (tie.spec
+    across-requires
+    along-requires
+    down-requires
+    along-requires-2
+    dark-at-requires
+    returns)
