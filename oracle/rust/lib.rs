@@ -6,6 +6,7 @@ pub use self::prepare::PreparedImage;
 pub mod detect;
 pub mod geometry;
 pub mod identify;
+pub mod limits;
 pub mod prepare;
 pub mod version_db;
 

@@ -1,37 +1,30 @@
 //! Holds the reading of cells against the Rust's `BitGrid::bit`. `oracle/run cells` builds and starts it.
+mod asked;
 mod mark_pictures;
+mod ours;
 mod pictures;
 mod random;
 mod report;
 
+use asked::{end, Asked};
+use ours::{INDEX, UNPLACED};
 use random::Random;
 use report::{unless_panic, Report};
-use std::process::exit;
 use theirs::geometry::Perspective;
 use theirs::prepare::reach;
 use theirs::{BitGrid, Point, SkewedGridLocation};
 
 const DARK: u8 = 254;
 const LIGHT: u8 = 255;
-const UNPLACED: u8 = 13;
-const INDEX: u8 = 16;
-
-extern "C" {
-    fn elmetzhur_read_cell(pic: *const u8, n: usize, width: usize, height: usize, size: u8, c: *const f64, coefficients: usize, y: u8, x: u8) -> u8;
-}
 
 fn main() {
-    let words: Vec<String> = std::env::args().skip(1).collect();
-    let seed = std::env::var("SEED").ok().and_then(|s| s.parse().ok()).unwrap_or(1);
-    let count: u64 = words.get(1).and_then(|s| s.parse().ok()).unwrap_or(1_000_000);
-    std::panic::set_hook(Box::new(|_| ()));
-    println!("seed {seed}");
-    let mut r = Random::new(seed, "cells");
+    let asked = Asked::read();
+    let mut r = Random::new(asked.seed, "cells");
     let mut report = Report::new("cells read");
-    while report.cases() < count {
+    while report.cases() < asked.count(1_000_000) {
         scene(&mut report, &mut r);
     }
-    exit(i32::from(!report.close()))
+    end(report.close())
 }
 
 /// A perspective: of corners near the picture, with floats of any size, or with any floats at all.
@@ -67,7 +60,7 @@ fn scene(report: &mut Report, r: &mut Random) {
             let past = r.one_in(10);
             let mut at = || if past { r.below(256) } else { r.below((size as usize).max(1)) };
             let (y, x) = (at(), at());
-            let ours = unsafe { elmetzhur_read_cell(picture.pixels.as_ptr(), width * height, width, height, size, c.0.as_ptr(), 8, y as u8, x as u8) };
+            let ours = ours::read_cell(&picture.pixels, width, height, size, &c.0, y as u8, x as u8);
             let expected = if x >= size as usize || y >= size as usize {
                 INDEX
             } else {

@@ -1,12 +1,10 @@
 //! Claims: the picture, the rows in the order met, and the counts of rows, pixels and pushes.
-use crate::ours::{self, Seed};
+use crate::ours::{self, Seed, SAME, WHITE};
 use crate::pictures::{bitmap, checkerboard, comb, maze, nth, painted, rings, spiral, Picture};
 use crate::random::Random;
 use crate::report::{unless_panic, Report};
 use theirs::prepare::{reach, Row};
 
-const WHITE: u8 = 6;
-const SAME: u8 = 7;
 /// What stands in the counts before a call.
 const BEFORE: usize = 77;
 

@@ -1,15 +1,19 @@
 //! Holds our fit of a group of stones against the Rust's `SkewedGridLocation::from_group`. `oracle/run fit` builds and starts it.
+mod asked;
 mod mark_pictures;
+mod ours;
+mod panics;
 mod pictures;
 mod random;
 mod report;
 mod symbols;
+mod tables;
 
+use asked::{end, said, Asked};
+use ours::{Room, FAR, LENGTH, NOTHING, SIZE, TABLE, TIMING, TURNED};
 use pictures::Picture;
 use random::Random;
-use report::{unless_panic, Report};
-use std::cell::RefCell;
-use std::process::exit;
+use report::{same_float, unless_panic, Report};
 use symbols::{seen, Seen};
 use theirs::detect::{capstones_from_image, CapStone};
 use theirs::geometry::Perspective;
@@ -18,42 +22,13 @@ use theirs::prepare::{reach, ColoredRegion};
 use theirs::version_db::VERSION_DATA_BASE;
 use theirs::{Point, SkewedGridLocation};
 
-const NO_GRID: u8 = 255;
-const FAR: u8 = 12;
-const TIMING: u8 = 14;
 const FARTHEST: i64 = 10_000;
-
-extern "C" {
-    fn elmetzhur_fit(
-        pic: *mut u8,
-        n: usize,
-        width: usize,
-        height: usize,
-        stack: *mut u32,
-        entries: usize,
-        scratch: *mut u8,
-        kept: usize,
-        counts: *mut usize,
-        room: usize,
-        places: *const i32,
-        numbers: usize,
-        floats: *mut f64,
-        coefficients: usize,
-    ) -> u8;
-}
-
-thread_local! {
-    /// What the last panic said.
-    static SAID: RefCell<String> = const { RefCell::new(String::new()) };
-}
+/// What stands in the table's places past its entries, and is not to matter.
+const STRAY: usize = 200;
 
 fn main() {
-    let words: Vec<String> = std::env::args().skip(1).collect();
-    let seed = std::env::var("SEED").ok().and_then(|s| s.parse().ok()).unwrap_or(1);
-    let count = words.get(1).and_then(|s| s.parse().ok()).unwrap_or(100_000);
-    std::panic::set_hook(Box::new(|info| SAID.with(|said| *said.borrow_mut() = info.to_string())));
-    println!("seed {seed}");
-    exit(i32::from(!compare(seed, count)))
+    let asked = Asked::read();
+    end(compare(asked.seed, asked.count(100_000)))
 }
 
 // ---------------------------------------------------------------- ours
@@ -73,63 +48,33 @@ impl Lent {
 
     /// Lends a table: its numbers by age, and the entry of each; what stands past them is not to matter.
     fn lend(&mut self, table: &[(u8, ColoredRegion)]) {
-        self.counts.fill(200);
+        self.counts.fill(STRAY);
         self.floats.fill(7.7);
-        self.counts[1004] = table.len();
+        self.counts[tables::ENTRIES] = table.len();
         for (k, (age, region)) in table.iter().enumerate() {
             self.counts[4 * k] = *age as usize;
-            self.counts[4 * *age as usize + 1..4 * *age as usize + 4].copy_from_slice(&entry(region));
+            self.counts[4 * *age as usize + 1..4 * *age as usize + 4].copy_from_slice(&tables::entry(region));
         }
     }
 
     fn fit(&mut self, pixels: &mut [u8], width: usize, height: usize, group: &[CapStone; 3]) -> u8 {
         let places: Vec<i32> = group.iter().flat_map(|s| s.corners.into_iter().chain([s.center])).flat_map(|p| [p.x, p.y]).collect();
-        let room = width.saturating_mul(height).min(640_000);
-        unsafe {
-            elmetzhur_fit(
-                pixels.as_mut_ptr(),
-                pixels.len(),
-                width,
-                height,
-                self.stack.as_mut_ptr(),
-                room,
-                self.scratch.as_mut_ptr(),
-                room,
-                self.counts.as_mut_ptr(),
-                self.counts.len(),
-                places.as_ptr(),
-                places.len(),
-                self.floats.as_mut_ptr(),
-                self.floats.len(),
-            )
-        }
+        let n = width.saturating_mul(height).min(640_000);
+        let room = Room { stack: &mut self.stack[..n], scratch: &mut self.scratch[..n] };
+        ours::fit(pixels, width, height, room, &mut self.counts, &places, &mut self.floats)
     }
 
     /// The table is the Rust's, and the places past its entries are as they were.
     fn same_table(&self, img: &reach::Picture) -> bool {
-        let table = reach::table(img);
-        let n = table.len();
-        let held = |(k, (age, region)): (usize, &(u8, ColoredRegion))| {
-            let at = 4 * *age as usize;
-            self.counts[4 * k] == *age as usize && self.counts[at + 1..at + 4] == entry(region)
-        };
-        self.counts[1004] == n && table.iter().enumerate().all(held) && self.counts[4 * n..1004].iter().all(|z| *z == 200)
+        tables::same(&self.counts, img) && tables::holds_past(&self.counts, STRAY)
     }
 
     fn same_grid(&self, grid: &SkewedGridLocation) -> bool {
-        let same = |(a, b): (&f64, &f64)| a.to_bits() == b.to_bits() || (a.is_nan() && b.is_nan());
-        self.counts[1005] == grid.grid_size && grid.c.0.iter().zip(&self.floats).all(same)
+        self.counts[1005] == grid.grid_size && grid.c.0.iter().zip(&self.floats).all(|(a, b)| same_float(*a, *b))
     }
 
     fn floats_kept(&self) -> bool {
         self.floats.iter().all(|x| *x == 7.7)
-    }
-}
-
-fn entry(region: &ColoredRegion) -> [usize; 3] {
-    match region {
-        ColoredRegion::Unclaimed { src_x, src_y, pixel_count, .. } => [*src_x, *src_y, *pixel_count],
-        _ => [usize::MAX; 3],
     }
 }
 
@@ -139,26 +84,10 @@ fn entry(region: &ColoredRegion) -> [usize; 3] {
 fn copy(w: usize, h: usize, pixels: &[u8], table: &[(u8, ColoredRegion)]) -> reach::Picture {
     let mut img = reach::picture(w, h, pixels);
     for (number, region) in table.iter().rev() {
-        let [x, y, px] = entry(region);
+        let [x, y, px] = tables::entry(region);
         reach::put(&mut img, *number, x, y, px);
     }
     img
-}
-
-/// The number that document 01 gives a panic of the Rust's.
-fn number_of(said: &str) -> u8 {
-    let map = ["x <= i32::MAX as f64", "x >= i32::MIN as f64", "y <= i32::MAX as f64", "y >= i32::MIN as f64"];
-    if map.iter().any(|test| said.contains(test)) {
-        13
-    } else if said.contains("scan >= 1") {
-        TIMING
-    } else if said.contains("rotated perspective can't fail") {
-        15
-    } else if said.contains("unwrap()") {
-        10
-    } else {
-        0
-    }
 }
 
 /// Whether a limit of document 01's bites, by the Rust's own steps in wide numbers: at a point that every group has, or at one that only a
@@ -280,14 +209,14 @@ fn fit_one(report: &mut Report, lent: &mut Lent, scene: &Scene, group: &[CapSton
     let [a, b, c] = group.clone();
     // past a limit the Rust goes on, and may search for hours
     let found = if ours == FAR { Some(None) } else { unless_panic(|| SkewedGridLocation::from_group(&mut img, CapStoneGroup(a, b, c))) };
-    let said = if found.is_none() { SAID.with(|said| said.borrow().clone()) } else { String::new() };
+    let said = if found.is_none() { said() } else { String::new() };
     let left = || pixels == reach::pixels(&img) && lent.same_table(&img);
     let (same, outcome) = match &found {
         _ if ours == FAR => (sometimes && kept(), "12, where a limit bites".to_string()),
         _ if always && ours != TIMING => (false, String::new()),
         Some(Some(grid)) => (ours == 0 && lent.same_grid(grid) && left(), format!("a grid of {}", size_kind(grid.grid_size))),
-        Some(None) => (ours == NO_GRID && lent.counts[1005] == 0 && lent.floats_kept() && left(), "no grid".to_string()),
-        None => (number_of(&said) == ours && kept(), format!("{ours}, the Rust panics")),
+        Some(None) => (ours == NOTHING && lent.counts[1005] == 0 && lent.floats_kept() && left(), "no grid".to_string()),
+        None => (panics::number_of(&said) == ours && kept(), format!("{ours}, the Rust panics")),
     };
     let full = if table.len() == 251 { ", table full" } else { "" };
     let unmended = VERSION_DATA_BASE[21].apat[4] == 92;
@@ -504,7 +433,7 @@ fn refusals(lent: &mut Lent, r: &mut Random) -> Report {
                 let bytes = pixels.clone();
                 lent.lend(&[]);
                 if bad == 1 {
-                    lent.counts[1004] = r.pick(&[1, 252, usize::MAX]);
+                    lent.counts[tables::ENTRIES] = r.pick(&[1, 252, usize::MAX]);
                 }
                 let point = Point { x: 0, y: 0 };
                 let mut group = [0; 3].map(|_| stone([point; 4], point));
@@ -516,11 +445,11 @@ fn refusals(lent: &mut Lent, r: &mut Random) -> Report {
                 let lent_before = lent.counts.clone();
                 let side = |n| (1..=800).contains(&n);
                 let expected = if !side(width) || !side(height) {
-                    1
+                    SIZE
                 } else if width * height != length {
-                    2
+                    LENGTH
                 } else {
-                    [15, 9, FAR, FAR][bad]
+                    [TURNED, TABLE, FAR, FAR][bad]
                 };
                 let ours = lent.fit(&mut pixels, width, height, &group);
                 let kept = pixels == bytes && lent.counts == lent_before && lent.floats_kept();

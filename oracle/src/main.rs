@@ -1,4 +1,5 @@
 //! Holds our library against the Rust that it ports, on many inputs, and measures both. `oracle/run` builds and starts it.
+mod asked;
 mod fill;
 mod floats;
 mod geometry;
@@ -11,24 +12,17 @@ mod runs;
 mod speed;
 mod turns;
 
-use std::process::exit;
+use asked::{end, Asked};
 
 fn main() {
-    let words: Vec<String> = std::env::args().skip(1).collect();
-    let seed = std::env::var("SEED").ok().and_then(|s| s.parse().ok()).unwrap_or(1);
-    let count = |usual| words.get(1).and_then(|s| s.parse().ok()).unwrap_or(usual);
-    std::panic::set_hook(Box::new(|_| ()));
-    println!("seed {seed}");
-    let agreed = match words.first().map(String::as_str) {
-        Some("geometry") => geometry::compare(seed, count(10_000_000)),
-        Some("prepare") => prepare::compare(seed, count(20_000)),
-        Some("claim") => fill::compare(seed, count(800_000)),
-        Some("lookup") => runs::compare(seed, count(100_000)),
-        Some("speed") => speed::measure(seed, count(25) as usize),
-        _ => {
-            eprintln!("oracle: say what to run: geometry, prepare, claim, lookup or speed");
-            exit(2)
-        }
-    };
-    exit(i32::from(!agreed))
+    let asked = Asked::read();
+    let seed = asked.seed;
+    end(match asked.what.as_str() {
+        "geometry" => geometry::compare(seed, asked.count(10_000_000)),
+        "prepare" => prepare::compare(seed, asked.count(20_000)),
+        "claim" => fill::compare(seed, asked.count(800_000)),
+        "lookup" => runs::compare(seed, asked.count(100_000)),
+        "speed" => speed::measure(seed, asked.turns()),
+        _ => asked.unknown(),
+    })
 }

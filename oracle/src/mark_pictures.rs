@@ -27,12 +27,12 @@ pub fn drawn(r: &mut Random, width: usize, height: usize) -> Picture {
     }
 }
 
-fn white(kind: &'static str, width: usize, height: usize) -> Picture {
+pub fn white(kind: &'static str, width: usize, height: usize) -> Picture {
     Picture::new(kind, width, height, |_, _| 0)
 }
 
 /// Black where `n` in a hundred pixels are.
-fn noise(r: &mut Random, width: usize, height: usize) -> Picture {
+pub fn noise(r: &mut Random, width: usize, height: usize) -> Picture {
     let n = r.below(100) + 1;
     Picture::new("noise", width, height, |_, _| u8::from(r.below(100) < n))
 }
@@ -43,7 +43,7 @@ fn from(r: &mut Random, low: i32, high: i32) -> i32 {
 }
 
 /// Flips about one pixel in `rare`.
-fn speckle(r: &mut Random, p: &mut Picture, rare: usize) {
+pub fn speckle(r: &mut Random, p: &mut Picture, rare: usize) {
     p.pixels.iter_mut().for_each(|b| *b ^= u8::from(r.one_in(rare)));
 }
 
@@ -54,7 +54,7 @@ fn in_mark(u: f64, v: f64) -> bool {
 }
 
 /// A mark whose left upper corner is at (x, y), with modules of these sides; what leaves the picture is cut off.
-fn draw_mark(p: &mut Picture, x: i32, y: i32, wide: i32, high: i32) {
+pub fn draw_mark(p: &mut Picture, x: i32, y: i32, wide: i32, high: i32) {
     for dy in 0..7 * high {
         for dx in 0..7 * wide {
             let (px, py) = (x + dx, y + dy);
@@ -67,7 +67,7 @@ fn draw_mark(p: &mut Picture, x: i32, y: i32, wide: i32, high: i32) {
 }
 
 /// Marks with straight sides, of many sizes, some of them over an edge.
-fn straight(r: &mut Random, width: usize, height: usize, n: usize) -> Picture {
+pub fn straight(r: &mut Random, width: usize, height: usize, n: usize) -> Picture {
     let mut p = white("straight marks", width, height);
     for _ in 0..n {
         let largest = (width.min(height) as i32 / 7).clamp(1, 12);
@@ -83,7 +83,7 @@ fn straight(r: &mut Random, width: usize, height: usize, n: usize) -> Picture {
 }
 
 /// Marks that are turned, sheared and pulled.
-fn skewed(r: &mut Random, width: usize, height: usize, n: usize) -> Picture {
+pub fn skewed(r: &mut Random, width: usize, height: usize, n: usize) -> Picture {
     let mut p = white("skewed marks", width, height);
     for _ in 0..n {
         let module = r.within(1.0, (width.min(height) as f64 / 8.0).max(1.2));
@@ -146,7 +146,7 @@ fn nested(r: &mut Random, width: usize, height: usize) -> Picture {
 }
 
 /// Small marks in rows and columns: where there is room for them, more than 64.
-fn many(r: &mut Random, width: usize, height: usize) -> Picture {
+pub fn many(r: &mut Random, width: usize, height: usize) -> Picture {
     let mut p = white("many marks", width, height);
     let (module, gap, missing) = (r.pick(&[1, 1, 1, 2]), r.between(1, 2), r.below(12) + 2);
     let step = 7 * module + gap;
@@ -171,7 +171,7 @@ pub fn full(width: usize, height: usize) -> Picture {
 }
 
 /// Rings with tails, and with pieces bitten off: corners that lie far out, close together, or on a line.
-fn tailed(r: &mut Random, width: usize, height: usize) -> Picture {
+pub fn tailed(r: &mut Random, width: usize, height: usize) -> Picture {
     let mut p = white("tailed marks", width, height);
     let module = r.between(1, 3);
     let (x, y) = (from(r, 0, width as i32 - 7 * module), from(r, 0, height as i32 - 7 * module));
@@ -217,7 +217,7 @@ fn planted(r: &mut Random, width: usize, height: usize) -> Picture {
 }
 
 /// A stroke of pixels that touch by their sides.
-fn stroke(p: &mut Picture, from_x: i32, from_y: i32, to_x: i32, to_y: i32, byte: u8) {
+pub fn stroke(p: &mut Picture, from_x: i32, from_y: i32, to_x: i32, to_y: i32, byte: u8) {
     let (mut x, mut y) = (from_x, from_y);
     for _ in 0..(to_x - from_x).abs() + (to_y - from_y).abs() + 1 {
         if x >= 0 && y >= 0 && (x as usize) < p.width && (y as usize) < p.height {
@@ -271,7 +271,7 @@ fn lines(r: &mut Random, width: usize, height: usize) -> Picture {
 }
 
 /// Several symbols in one picture, side by side.
-fn several(r: &mut Random, width: usize, height: usize) -> Picture {
+pub fn several(r: &mut Random, width: usize, height: usize) -> Picture {
     let (across, down) = (r.below(3) + 1, r.below(3) + 1);
     let (wide, high) = ((width / across).max(1), (height / down).max(1));
     let mut p = white("several symbols", width, height);

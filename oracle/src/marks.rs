@@ -1,57 +1,31 @@
 //! Holds our search for marks against the Rust's `capstones_from_image`, and measures both. `oracle/run marks` builds and starts it.
+mod asked;
 mod mark_pictures;
+mod ours;
 mod pictures;
 mod random;
 mod report;
+mod tables;
 mod turns;
 
+use asked::{end, Asked};
 use mark_pictures::{dashes, drawn, full};
+use ours::{BYTE, FAR, LENGTH, ROOM, SIZE, STONES, UNPLACED};
 use pictures::{nth, slate, Picture};
 use random::Random;
-use report::{unless_panic, Report};
-use std::process::exit;
+use report::{same_float, unless_panic, Report};
 use theirs::detect::{capstones_from_image, CapStone};
-use theirs::prepare::{reach, ColoredRegion};
+use theirs::prepare::reach;
 use theirs::Point;
 use turns::{timed, Table};
 
-const BYTE: u8 = 4;
-const STONES: u8 = 11;
-const FAR: u8 = 12;
-const UNPLACED: u8 = 13;
-
-extern "C" {
-    fn elmetzhur_capstones(
-        pic: *mut u8,
-        n: usize,
-        width: usize,
-        height: usize,
-        stack: *mut u32,
-        entries: usize,
-        places: *mut i32,
-        numbers: usize,
-        floats: *mut f64,
-        coefficients: usize,
-        counts: *mut usize,
-        room: usize,
-    ) -> u8;
-}
-
 fn main() {
-    let words: Vec<String> = std::env::args().skip(1).collect();
-    let seed = std::env::var("SEED").ok().and_then(|s| s.parse().ok()).unwrap_or(1);
-    let count = |usual| words.get(1).and_then(|s| s.parse().ok()).unwrap_or(usual);
-    std::panic::set_hook(Box::new(|_| ()));
-    println!("seed {seed}");
-    let agreed = match words.first().map(String::as_str) {
-        Some("marks") => compare(seed, count(400_000)),
-        Some("marks-speed") => measure(seed, count(25) as usize),
-        _ => {
-            eprintln!("oracle: say what to run: marks or marks-speed");
-            exit(2)
-        }
-    };
-    exit(i32::from(!agreed))
+    let asked = Asked::read();
+    end(match asked.what.as_str() {
+        "marks" => compare(asked.seed, asked.count(400_000)),
+        "marks-speed" => measure(asked.seed, asked.turns()),
+        _ => asked.unknown(),
+    })
 }
 
 // ---------------------------------------------------------------- ours
@@ -70,22 +44,7 @@ impl Lent {
     }
 
     fn search(&mut self, pixels: &mut [u8], width: usize, height: usize, entries: usize) -> u8 {
-        unsafe {
-            elmetzhur_capstones(
-                pixels.as_mut_ptr(),
-                pixels.len(),
-                width,
-                height,
-                self.stack.as_mut_ptr(),
-                entries,
-                self.places.as_mut_ptr(),
-                self.places.len(),
-                self.floats.as_mut_ptr(),
-                self.floats.len(),
-                self.counts.as_mut_ptr(),
-                self.counts.len(),
-            )
-        }
+        ours::capstones(pixels, width, height, &mut self.stack[..entries], &mut self.places, &mut self.floats, &mut self.counts)
     }
 
     /// The stones are the Rust's: corners, centre, and each coefficient bit for bit. The others are blank.
@@ -93,25 +52,13 @@ impl Lent {
         let same = |k: usize, stone: &CapStone| {
             let points = stone.corners.iter().chain([&stone.center]).flat_map(|p| [p.x, p.y]);
             let floats = stone.c.0.iter().zip(&self.floats[8 * k..]);
-            points.eq(self.places[10 * k..10 * k + 10].iter().copied())
-                && floats.into_iter().all(|(a, b)| a.to_bits() == b.to_bits() || (a.is_nan() && b.is_nan()))
+            points.eq(self.places[10 * k..10 * k + 10].iter().copied()) && floats.into_iter().all(|(a, b)| same_float(*a, *b))
         };
         self.counts[1005] == stones.len() && stones.iter().enumerate().all(|(k, stone)| same(k, stone)) && self.blank_from(stones.len())
     }
 
     fn blank_from(&self, k: usize) -> bool {
         self.places[10 * k..].iter().all(|z| *z == 0) && self.floats[8 * k..].iter().all(|x| x.is_nan())
-    }
-
-    /// The table is the Rust's: the numbers by age, and the entry of each.
-    fn same_table(&self, img: &reach::Picture) -> bool {
-        let table = reach::table(img);
-        let entry = |k: usize| match table.iter().find(|(n, _)| *n as usize == k) {
-            Some((_, ColoredRegion::Unclaimed { src_x, src_y, pixel_count, .. })) => [*src_x, *src_y, *pixel_count],
-            _ => [usize::MAX; 3],
-        };
-        self.counts[1004] == table.len()
-            && table.iter().enumerate().all(|(k, (age, _))| self.counts[4 * k] == *age as usize && self.counts[4 * k + 1..4 * k + 4] == entry(k))
     }
 }
 
@@ -153,7 +100,7 @@ fn search_one(report: &mut Report, lent: &mut Lent, picture: &Picture) {
     let found = unless_panic(|| capstones_from_image(&mut img));
     let mut pixels = picture.pixels.clone();
     let ours = lent.search(&mut pixels, w, h, w * h);
-    let left = || pixels == reach::pixels(&img) && lent.same_table(&img);
+    let left = || pixels == reach::pixels(&img) && tables::same(&lent.counts, &img);
     let (same, outcome) = match &found {
         Some(stones) => match number_of(stones) {
             0 => {
@@ -223,11 +170,11 @@ fn refusals(lent: &mut Lent, r: &mut Random) -> Report {
                 let bytes: Vec<u8> = (0..length).map(|k| if k + 1 == length { top } else { r.below(2) as u8 }).collect();
                 let side = |n| (1..=800).contains(&n);
                 let expected = if !side(width) || !side(height) {
-                    1
+                    SIZE
                 } else if width * height != length {
-                    2
+                    LENGTH
                 } else if entries < length {
-                    3
+                    ROOM
                 } else if top > 1 {
                     BYTE
                 } else {

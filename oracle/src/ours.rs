@@ -1,10 +1,25 @@
-//! Our library, called through its C face. Each wrapper lends what the call asks for.
+//! Our library, called through its C face. Each wrapper lends what the call asks for; a program uses those of the crate that it is linked with.
 use theirs::Point;
 
 /// What a call returns when it has written its values.
 pub const FOUND: u8 = 0;
-/// What it returns when there is nothing to be found: a flat perspective, lines that never cross.
+/// What it returns when there is nothing to be found: a flat perspective, lines that never cross, no grid.
 pub const NOTHING: u8 = 255;
+/// Document 01's numbers of refusals.
+pub const SIZE: u8 = 1;
+pub const LENGTH: u8 = 2;
+pub const ROOM: u8 = 3;
+pub const BYTE: u8 = 4;
+pub const WHITE: u8 = 6;
+pub const SAME: u8 = 7;
+pub const TABLE: u8 = 9;
+pub const NUMBER: u8 = 10;
+pub const STONES: u8 = 11;
+pub const FAR: u8 = 12;
+pub const UNPLACED: u8 = 13;
+pub const TIMING: u8 = 14;
+pub const TURNED: u8 = 15;
+pub const INDEX: u8 = 16;
 
 extern "C" {
     fn elmetzhur_round(x: f64, out: *mut i32, room: usize) -> u8;
@@ -42,6 +57,63 @@ extern "C" {
         places: usize,
         count: *mut usize,
         room: usize,
+    ) -> u8;
+    fn elmetzhur_capstones(
+        pic: *mut u8,
+        n: usize,
+        width: usize,
+        height: usize,
+        stack: *mut u32,
+        entries: usize,
+        places: *mut i32,
+        numbers: usize,
+        floats: *mut f64,
+        coefficients: usize,
+        counts: *mut usize,
+        room: usize,
+    ) -> u8;
+    fn elmetzhur_rank(
+        centers: *const i32,
+        numbers: usize,
+        floats: *const f64,
+        coefficients: usize,
+        n: usize,
+        idx: usize,
+        pairs: *mut usize,
+        room: usize,
+    ) -> u8;
+    fn elmetzhur_fit(
+        pic: *mut u8,
+        n: usize,
+        width: usize,
+        height: usize,
+        stack: *mut u32,
+        entries: usize,
+        scratch: *mut u8,
+        kept: usize,
+        counts: *mut usize,
+        room: usize,
+        places: *const i32,
+        numbers: usize,
+        floats: *mut f64,
+        coefficients: usize,
+    ) -> u8;
+    fn elmetzhur_read_cell(pic: *const u8, n: usize, width: usize, height: usize, size: u8, c: *const f64, coefficients: usize, y: u8, x: u8) -> u8;
+    fn elmetzhur_detect(
+        pic: *mut u8,
+        n: usize,
+        width: usize,
+        height: usize,
+        stack: *mut u32,
+        entries: usize,
+        scratch: *mut u8,
+        kept: usize,
+        counts: *mut usize,
+        room: usize,
+        places: *mut i32,
+        numbers: usize,
+        floats: *mut f64,
+        coefficients: usize,
     ) -> u8;
 }
 
@@ -131,6 +203,86 @@ pub fn rows(pic: &mut [u8], width: usize, height: usize, stack: &mut [u32], seed
             places,
             count.as_mut_ptr(),
             room,
+        )
+    }
+}
+
+/// Finds all marks of a bitmap: the stones' points, their coefficients, and the table with two counts behind it.
+pub fn capstones(pic: &mut [u8], width: usize, height: usize, stack: &mut [u32], places: &mut [i32], floats: &mut [f64], counts: &mut [usize]) -> u8 {
+    unsafe {
+        elmetzhur_capstones(
+            pic.as_mut_ptr(),
+            pic.len(),
+            width,
+            height,
+            stack.as_mut_ptr(),
+            stack.len(),
+            places.as_mut_ptr(),
+            places.len(),
+            floats.as_mut_ptr(),
+            floats.len(),
+            counts.as_mut_ptr(),
+            counts.len(),
+        )
+    }
+}
+
+/// Ranks the pairs of a stone's neighbours, n stones by centres and coefficients.
+pub fn rank(centers: &[i32], floats: &[f64], n: usize, idx: usize, pairs: &mut [usize]) -> u8 {
+    unsafe { elmetzhur_rank(centers.as_ptr(), centers.len(), floats.as_ptr(), floats.len(), n, idx, pairs.as_mut_ptr(), pairs.len()) }
+}
+
+/// What a call that works on a picture for a while borrows: a stack and a scratch, with an entry and a byte for each pixel.
+pub struct Room<'a> {
+    pub stack: &'a mut [u32],
+    pub scratch: &'a mut [u8],
+}
+
+/// Fits a group of three stones, five points each, on a picture and a table.
+pub fn fit(pic: &mut [u8], width: usize, height: usize, room: Room, counts: &mut [usize], places: &[i32], floats: &mut [f64]) -> u8 {
+    unsafe {
+        elmetzhur_fit(
+            pic.as_mut_ptr(),
+            pic.len(),
+            width,
+            height,
+            room.stack.as_mut_ptr(),
+            room.stack.len(),
+            room.scratch.as_mut_ptr(),
+            room.scratch.len(),
+            counts.as_mut_ptr(),
+            counts.len(),
+            places.as_ptr(),
+            places.len(),
+            floats.as_mut_ptr(),
+            floats.len(),
+        )
+    }
+}
+
+/// Reads the cell of line y and column x of a grid.
+pub fn read_cell(pic: &[u8], width: usize, height: usize, size: u8, c: &[f64], y: u8, x: u8) -> u8 {
+    unsafe { elmetzhur_read_cell(pic.as_ptr(), pic.len(), width, height, size, c.as_ptr(), c.len(), y, x) }
+}
+
+/// Detects the grids of a bitmap: the table with three counts behind it, the grids' sizes and bounds, and their coefficients.
+pub fn detect(pic: &mut [u8], width: usize, height: usize, room: Room, counts: &mut [usize], places: &mut [i32], floats: &mut [f64]) -> u8 {
+    unsafe {
+        elmetzhur_detect(
+            pic.as_mut_ptr(),
+            pic.len(),
+            width,
+            height,
+            room.stack.as_mut_ptr(),
+            room.stack.len(),
+            room.scratch.as_mut_ptr(),
+            room.scratch.len(),
+            counts.as_mut_ptr(),
+            counts.len(),
+            places.as_mut_ptr(),
+            places.len(),
+            floats.as_mut_ptr(),
+            floats.len(),
         )
     }
 }

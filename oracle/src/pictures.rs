@@ -246,24 +246,38 @@ pub fn symbol(r: &mut Random, version: usize) -> (usize, Vec<bool>) {
     (size, m)
 }
 
-/// A symbol on white, turned and pulled a little, where there is room for one; with some pixels flipped now and then.
-pub fn slate(r: &mut Random, width: usize, height: usize) -> Picture {
-    let version = r.below(10) + 1;
-    let (size, modules) = symbol(r, version);
-    let side = r.within(0.5, 0.95) * width.min(height) as f64;
-    let turn = if r.one_in(2) { 0.0 } else { r.within(0.0, 6.3) };
-    let (pull_x, pull_y) = (r.within(-0.0004, 0.0004), r.within(-0.0004, 0.0004));
+/// How a symbol is seen: its side as a part of the picture's, its turn, the pull of its perspective, and one pixel in how many is flipped (0: none).
+pub struct View {
+    pub side: f64,
+    pub turn: f64,
+    pub pull: (f64, f64),
+    pub noise: usize,
+}
+
+/// A symbol in the middle of a white picture.
+pub fn viewed(r: &mut Random, (size, modules): &(usize, Vec<bool>), width: usize, height: usize, view: &View) -> Picture {
+    let size = *size;
     let (cx, cy) = (width as f64 / 2.0, height as f64 / 2.0);
-    let shrink = if turn == 0.0 { 1.0 } else { 0.7 };
-    let noise = if r.one_in(3) { r.below(300) + 20 } else { 0 };
+    let scale = size as f64 / (view.side * width.min(height) as f64);
     Picture::new("slate", width, height, |x, y| {
         let (dx, dy) = (x as f64 + 0.5 - cx, y as f64 + 0.5 - cy);
-        let den = 1.0 + pull_x * dx + pull_y * dy;
-        let (c, s) = (turn.cos() / den, turn.sin() / den);
-        let scale = size as f64 / (side * shrink);
+        let den = 1.0 + view.pull.0 * dx + view.pull.1 * dy;
+        let (c, s) = (view.turn.cos() / den, view.turn.sin() / den);
         let (u, v) = ((c * dx + s * dy) * scale + size as f64 / 2.0, (c * dy - s * dx) * scale + size as f64 / 2.0);
         let inside = u >= 0.0 && v >= 0.0 && u < size as f64 && v < size as f64;
         let black = inside && modules[v as usize * size + u as usize];
-        u8::from(black != (noise > 0 && r.one_in(noise)))
+        u8::from(black != (view.noise > 0 && r.one_in(view.noise)))
     })
+}
+
+/// A symbol on white, turned and pulled a little, where there is room for one; with some pixels flipped now and then.
+pub fn slate(r: &mut Random, width: usize, height: usize) -> Picture {
+    let version = r.below(10) + 1;
+    let symbol = symbol(r, version);
+    let side = r.within(0.5, 0.95);
+    let turn = if r.one_in(2) { 0.0 } else { r.within(0.0, 6.3) };
+    let pull = (r.within(-0.0004, 0.0004), r.within(-0.0004, 0.0004));
+    let noise = if r.one_in(3) { r.below(300) + 20 } else { 0 };
+    let shrink = if turn == 0.0 { 1.0 } else { 0.7 };
+    viewed(r, &symbol, width, height, &View { side: side * shrink, turn, pull, noise })
 }

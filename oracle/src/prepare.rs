@@ -1,13 +1,9 @@
 //! Thresholding and accepting: pictures byte for byte, and what is refused.
-use crate::ours;
+use crate::ours::{self, BYTE, LENGTH, SIZE};
 use crate::pictures::{frame, grey, nth, Picture};
 use crate::random::Random;
 use crate::report::{unless_panic, Report};
 use theirs::prepare::reach;
-
-const SIZE: u8 = 1;
-const LENGTH: u8 = 2;
-const BYTE: u8 = 4;
 
 pub fn compare(seed: u64, count: u64) -> bool {
     let reports = [

@@ -1,38 +1,23 @@
 //! Holds our ranking of neighbours against the Rust's `find_and_rank_possible_neighbors`. `oracle/run ranking` builds and starts it.
+mod asked;
+mod ours;
 mod random;
 mod report;
+mod scores;
 
+use asked::{end, Asked};
+use ours::{INDEX, STONES};
 use random::Random;
 use report::{unless_panic, Report};
-use std::process::exit;
+use scores::score;
 use theirs::detect::CapStone;
 use theirs::geometry::Perspective;
 use theirs::identify::match_capstones::find_and_rank_possible_neighbors;
 use theirs::Point;
 
-const STONES: u8 = 11;
-const INDEX: u8 = 16;
-
-extern "C" {
-    fn elmetzhur_rank(
-        centers: *const i32,
-        numbers: usize,
-        floats: *const f64,
-        coefficients: usize,
-        n: usize,
-        idx: usize,
-        pairs: *mut usize,
-        room: usize,
-    ) -> u8;
-}
-
 fn main() {
-    let words: Vec<String> = std::env::args().skip(1).collect();
-    let seed = std::env::var("SEED").ok().and_then(|s| s.parse().ok()).unwrap_or(1);
-    let count = words.get(1).and_then(|s| s.parse().ok()).unwrap_or(400_000);
-    std::panic::set_hook(Box::new(|_| ()));
-    println!("seed {seed}");
-    exit(i32::from(!compare(seed, count)))
+    let asked = Asked::read();
+    end(compare(asked.seed, asked.count(400_000)))
 }
 
 /// What every call borrows.
@@ -52,8 +37,7 @@ impl Lent {
             self.centers[2 * k..2 * k + 2].copy_from_slice(&[stone.center.x, stone.center.y]);
             self.floats[8 * k..8 * k + 8].copy_from_slice(&stone.c.0);
         }
-        let (centers, floats) = (self.centers.as_ptr(), self.floats.as_ptr());
-        let number = unsafe { elmetzhur_rank(centers, 128, floats, 512, n, idx, self.pairs.as_mut_ptr(), self.pairs.len()) };
+        let number = ours::rank(&self.centers, &self.floats, n, idx, &mut self.pairs);
         let told = if number == 0 { self.pairs[1984] } else { 0 };
         (number, self.pairs.chunks(2).take(told.min(992)).map(|p| (p[0], p[1])).collect())
     }
@@ -86,16 +70,6 @@ fn compare(seed: u64, count: u64) -> bool {
     report.close()
 }
 
-/// The score that the Rust gives a pair.
-fn score(stones: &[CapStone], idx: usize, (h, v): (usize, usize)) -> f64 {
-    let along = |k: usize| {
-        let (u, v) = stones[idx].c.unmap(&stones[k].center);
-        ((u - 3.5).abs(), (v - 3.5).abs())
-    };
-    let (a, b) = (along(h).1, along(v).0);
-    if a < b { (1.0 - a / b).abs() } else { (1.0 - b / a).abs() }
-}
-
 fn rank_one(report: &mut Report, lent: &mut Lent, kind: &str, stones: &[CapStone], idx: usize) -> usize {
     let theirs = unless_panic(|| find_and_rank_possible_neighbors(stones, idx));
     let (number, ours) = lent.rank(stones, stones.len(), idx);
@@ -103,12 +77,10 @@ fn rank_one(report: &mut Report, lent: &mut Lent, kind: &str, stones: &[CapStone
     let (same, told) = match &theirs {
         None => (idx >= stones.len() && number == INDEX && blank, "16, the Rust panics".to_string()),
         Some(ranked) if *ranked == ours => {
-            let scores: Vec<f64> = ours.iter().map(|p| score(stones, idx, *p)).collect();
-            let ties = scores.windows(2).any(|s| s[0] == s[1]);
             let size = match ours.len() {
                 0 => "no pair",
                 1 => "one pair",
-                _ if ties => "pairs, some with equal scores",
+                _ if scores::ties(stones, idx, &ours) => "pairs, some with equal scores",
                 _ => "pairs",
             };
             (number == 0 && blank, size.to_string())

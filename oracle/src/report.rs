@@ -45,12 +45,24 @@ impl Report {
         self.kinds.values().sum::<u64>() + self.differences
     }
 
+    /// Prints the counts in one line, and what else there is to say. Whether there was no difference.
+    pub fn line(self, more: &str) -> bool {
+        let kinds: Vec<String> = self.kinds.iter().map(|(kind, n)| format!("{kind} {n}")).collect();
+        println!("{}: {} cases, {} differences; {}; {more}", self.title, self.cases(), self.differences, kinds.join(", "));
+        self.close_differences()
+    }
+
     /// Prints the counts. Whether there was no difference.
     pub fn close(self) -> bool {
         println!("{}: {} cases, {} differences", self.title, self.cases(), self.differences);
         for (kind, n) in &self.kinds {
             println!("    {n:>12}  {kind}");
         }
+        self.close_differences()
+    }
+
+    /// Prints the smallest difference. Whether there was none.
+    fn close_differences(self) -> bool {
         if let Some((_, told)) = &self.smallest {
             println!("    the smallest difference:\n{told}");
         }
@@ -61,4 +73,9 @@ impl Report {
 /// What the Rust answers, or nothing where it panics.
 pub fn unless_panic<T>(f: impl FnOnce() -> T) -> Option<T> {
     catch_unwind(AssertUnwindSafe(f)).ok()
+}
+
+/// Whether two floats have the same bits, or are both NaN.
+pub fn same_float(a: f64, b: f64) -> bool {
+    a.to_bits() == b.to_bits() || (a.is_nan() && b.is_nan())
 }

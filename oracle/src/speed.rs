@@ -11,7 +11,7 @@ use theirs::Point;
 pub fn measure(seed: u64, turns: usize) -> bool {
     let table = Table::new(turns);
     points(&table, &mut Random::new(seed, "points"));
-    for side in [400, 800] {
+    for side in [100, 400, 800] {
         thresholds(&table, &mut Random::new(seed, "thresholds"), side);
     }
     for side in [400, 800] {
