@@ -1,4 +1,5 @@
 //! From a grey frame to the cells of each grid. The frame is a binary grey picture (P5, 255 greys) on standard input.
+#[allow(dead_code)]
 mod elmetzhur;
 
 use elmetzhur::{Picture, Refused, Rooms};
