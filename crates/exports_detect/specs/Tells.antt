@@ -15,8 +15,8 @@ use Rattle.bounded.specs.Held.{noGrid}
 use Rattle.detect.specs.Telling.{outcome, LaidOut}
 use Rattle.detect.specs.Detect.{DetectPost}
 use Rattle.detect.specs.declared.Findings.{Findings}
-use Rattle.told_places.specs.Put.{putAt, putEach}
-use Rattle.told_places.specs.Values.{floatsOf, allEntries, statusOf}
+use Rattle.told_places.specs.Put.{putEach}
+use Rattle.told_places.specs.Values.{floatsOf, tablePut, statusOf}
 
 -- a grid's size and its four bounds, x before y
 abbrev pub placesOf : Grid → List ℤ
@@ -33,10 +33,6 @@ allPlaces grids s = putEach (λ (k : ℕ). placesOf (gridAt grids k)) 9 31 0 s
 
 abbrev pub allFloats : List Grid → List Float → List Float
 allFloats grids s = putEach (λ (k : ℕ). floatsOf (gridAt grids k .c)) 8 31 0 s
-
--- a table, how many entries it has, and how many stones and grids there are
-abbrev pub tablePut : Table → ℕ → ℕ → List ℕ → List ℕ
-tablePut T stones grids s = putAt (allEntries T s) 1004 (T .n ∷ stones ∷ grids ∷ [])
 
 -- the numbers after the call: the table that is left, and how many stones and grids there are; a refusal leaves them as they were
 unfoldable pub countsAfter : Verdict → Findings → Table → List ℕ → List ℕ

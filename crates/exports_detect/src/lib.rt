@@ -8,33 +8,12 @@ use picture::Verdict;
 use refusals::number_of;
 use table::Table;
 use table::empty;
-use told_places::entries::put_entries;
+use told_places::entries::put_table;
 ghost use mathlib.Core.Path.{_≡_};
-ghost use mathlib.Core.List.{[], _∷_};
 ghost use Prim.Native.Nat.{_≤_};
 ghost use lib.ListN.{length};
-ghost use Rattle.told_places.specs.Put.{putAt};
-ghost use Rattle.told_places.specs.Values.{statusOf};
-ghost use Rattle.exports_detect.specs.Tells.{tablePut, allPlaces, allFloats, countsAfter, placesAfter, floatsAfter, Tells};
-
-// How many entries, stones and grids there are.
-fn put_counts(entries: usize, stones: usize, grids: usize, out: &mut [usize])
-    requires { ⌜ 1007 ≤ length (now out) ⌝ }
-    ensures { λ _. ⌜ now (out .exit) ≡ putAt (now (out .entry)) 1004 (entries ∷ stones ∷ grids ∷ []) ⌝ }
-{
-    out[1004] = entries;
-    out[1005] = stones;
-    out[1006] = grids;
-}
-
-// A table, and how many stones and grids there are.
-fn put_table(table: Table, stones: usize, grids: usize, out: &mut [usize])
-    requires { ⌜ 1007 ≤ length (now out) ⌝ }
-    ensures { λ _. ⌜ now (out .exit) ≡ tablePut table stones grids (now (out .entry)) ⌝ }
-{
-    put_entries(table, out);
-    put_counts(table.n, stones, grids, out);
-}
+ghost use Rattle.told_places.specs.Values.{tablePut, statusOf};
+ghost use Rattle.exports_detect.specs.Tells.{allPlaces, allFloats, countsAfter, placesAfter, floatsAfter, Tells};
 
 // What is found, and the table that finding it left.
 fn put_found(

@@ -12,9 +12,10 @@ use Rattle.grids.specs.Grid.{meaning}
 use Rattle.grids.specs.declared.Fit.{Fit}
 use Rattle.grids.specs.declared.Fit.the-variants.{Grid, NoGrid, Refused}
 use Rattle.fit.specs.Fit.{FitPost}
+use Rattle.told_places.specs.Lent.{tableOf}
 use Rattle.told_places.specs.Put.{putAt}
 use Rattle.told_places.specs.Values.{floatsOf, allEntries}
-use Rattle.exports_grids.specs.Lent.{tableOf, groupOf}
+use Rattle.exports_grids.specs.Lent.{groupOf}
 
 -- a table, how many entries it has, and a grid's size
 abbrev pub tablePut : Table → ℕ → List ℕ → List ℕ

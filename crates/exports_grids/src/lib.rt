@@ -3,9 +3,9 @@ mod lent;
 mod tell;
 
 use crate::lent::group_of;
-use crate::lent::table_of;
 use crate::tell::tell;
 use fit::fit_group;
+use told_places::lent::table_of;
 ghost use lib.ListN.{length};
 ghost use Rattle.exports_grids.specs.Tells.{Tells};
 

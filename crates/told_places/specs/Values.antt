@@ -10,7 +10,7 @@ use Rattle.geometry.specs.declared.Perspective.{Perspective}
 use Rattle.table.specs.Table.{entryOf}
 use Rattle.table.specs.declared.Entry.{Entry}
 use Rattle.table.specs.declared.Table.{Table}
-use Rattle.told_places.specs.Put.{putEach}
+use Rattle.told_places.specs.Put.{putAt, putEach}
 
 -- the eight coefficients of a perspective
 abbrev pub floatsOf : Perspective → List Float
@@ -27,6 +27,10 @@ tableNumbers T k = entryNumbers (getD (T .age) k 0) (entryOf T k)
 -- all 251 of them
 abbrev pub allEntries : Table → List ℕ → List ℕ
 allEntries T s = putEach (tableNumbers T) 4 251 0 s
+
+-- a table: its places, how many entries it has, and two numbers behind that
+abbrev pub tablePut : Table → ℕ → ℕ → List ℕ → List ℕ
+tablePut T first second s = putAt (allEntries T s) 1004 (T .n ∷ first ∷ second ∷ [])
 
 -- what a call returns: 0, or the number of a refusal
 unfoldable pub statusOf : Verdict → ℕ

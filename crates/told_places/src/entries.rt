@@ -2,10 +2,11 @@
 use table::Entry;
 use table::Table;
 ghost use mathlib.Core.Path.{_≡_};
+ghost use mathlib.Core.List.{[], _∷_};
 ghost use Prim.Native.Nat.{_+_, _≤_};
 ghost use lib.ListN.{length};
 ghost use Rattle.told_places.specs.Put.{putAt};
-ghost use Rattle.told_places.specs.Values.{entryNumbers, allEntries};
+ghost use Rattle.told_places.specs.Values.{entryNumbers, allEntries, tablePut};
 
 // A number by age, and an entry, from a place on.
 fn put_entry(age: u8, entry: Entry, at: usize, out: &mut [usize])
@@ -30,4 +31,23 @@ pub fn put_entries(table: Table, out: &mut [usize])
         put_entry(age, entry, k * 4, out);
         k += 1;
     }
+}
+
+// How many entries there are, and two numbers more.
+fn put_counts(entries: usize, first: usize, second: usize, out: &mut [usize])
+    requires { ⌜ 1007 ≤ length (now out) ⌝ }
+    ensures { λ _. ⌜ now (out .exit) ≡ putAt (now (out .entry)) 1004 (entries ∷ first ∷ second ∷ []) ⌝ }
+{
+    out[1004] = entries;
+    out[1005] = first;
+    out[1006] = second;
+}
+
+// A table, and two numbers behind it.
+pub fn put_table(table: Table, first: usize, second: usize, out: &mut [usize])
+    requires { ⌜ 1007 ≤ length (now out) ⌝ }
+    ensures { λ _. ⌜ now (out .exit) ≡ tablePut table first second (now (out .entry)) ⌝ }
+{
+    put_entries(table, out);
+    put_counts(table.n, first, second, out);
 }

@@ -3,10 +3,10 @@ use Prim.Native.Nat.{_-_, _≤_}
 use native.Mathlib.Omega.{arith}
 use mathlib.Core.Path.{_≡_, sym, _∙_}
 use borrow.Author.Needs.{needs}
-use Rattle.exports_grids.specs.Lent.{ageAt}
-use Rattle.exports_grids.proofs.Stored.{filled, filled-none, filled-more, filled-all}
-use Rattle.exports_grids.proofs.lent.ages_of.Statement.{statement}
-use Rattle.exports_grids.proofs.lent.ages_of.Tie as tie
+use Rattle.told_places.specs.Lent.{ageAt}
+use Rattle.told_places.proofs.Stored.{filled, filled-none, filled-more, filled-all}
+use Rattle.told_places.proofs.lent.ages_of.Statement.{statement}
+use Rattle.told_places.proofs.lent.ages_of.Tie as tie
 
 abbrev Inv-loop : tie.InvT-loop
 Inv-loop counts ages₀ k₀ ages k = (ages ≡ filled (ageAt counts) 0 k) × (k ≤ 251)

@@ -1,9 +1,9 @@
 -- `at_most` takes the lower of two numbers. Assumes nothing.
 use native.Mathlib.Omega.{arith}
 use borrow.Author.Tests.{lt-ltb, le-ltb}
-use Rattle.exports_grids.specs.Lent.{atMost}
-use Rattle.exports_grids.proofs.lent.at_most.Statement.{statement}
-use Rattle.exports_grids.proofs.lent.at_most.Tie as tie
+use Rattle.told_places.specs.Lent.{atMost}
+use Rattle.told_places.proofs.lent.at_most.Statement.{statement}
+use Rattle.told_places.proofs.lent.at_most.Tie as tie
 
 returns : tie.Need-returns
 unfolding atMost

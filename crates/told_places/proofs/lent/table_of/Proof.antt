@@ -1,8 +1,8 @@
 -- `table_of` puts a table together. Assumes nothing.
 use borrow.Author.Needs.{needs}
-use Rattle.exports_grids.specs.Lent.{tableOf}
-use Rattle.exports_grids.proofs.lent.table_of.Statement.{statement}
-use Rattle.exports_grids.proofs.lent.table_of.Tie as tie
+use Rattle.told_places.specs.Lent.{tableOf}
+use Rattle.told_places.proofs.lent.table_of.Statement.{statement}
+use Rattle.told_places.proofs.lent.table_of.Tie as tie
 
 entries-of-requires : tie.Need-entries-of-requires
 entries-of-requires c κs = search needs

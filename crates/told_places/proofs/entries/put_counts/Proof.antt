@@ -3,9 +3,9 @@ use native.Mathlib.Omega.{arith}
 use mathlib.Core.Path.{refl}
 use lib.ListN.{length-set}
 use borrow.Author.Needs.{needs}
 use Rattle.told_places.specs.Put.{putAt}
-use Rattle.exports_detect.proofs.put_counts.Statement.{statement}
-use Rattle.exports_detect.proofs.put_counts.Tie as tie
+use Rattle.told_places.proofs.entries.put_counts.Statement.{statement}
+use Rattle.told_places.proofs.entries.put_counts.Tie as tie
 
 slice-write-out : tie.Need-slice-write-out
 slice-write-out c = search needs

@@ -6,7 +6,7 @@ use mathlib.Core.Path.{_≡_, refl, ap, _∙_}
 use mathlib.Core.List.{List, [], _∷_, _++_, append-assoc, append-nil}
 use lib.ListN.{length, set, replicate, length-append}
 use lib.Seq.{set-at}
-use Rattle.exports_grids.specs.Lent.{firstOf}
+use Rattle.told_places.specs.Lent.{firstOf}
 
 module _ {A : Type 0} (f : ℕ → A) (none : A) where
   first-length : (k : ℕ) → length (firstOf f k) ≡ k

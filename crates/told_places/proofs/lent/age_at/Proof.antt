@@ -1,8 +1,8 @@
 -- `age_at` reads a number, held to what a byte holds. Assumes nothing.
 use borrow.Author.Needs.{needs}
-use Rattle.exports_grids.specs.Lent.{ageAt}
-use Rattle.exports_grids.proofs.lent.age_at.Statement.{statement}
-use Rattle.exports_grids.proofs.lent.age_at.Tie as tie
+use Rattle.told_places.specs.Lent.{ageAt}
+use Rattle.told_places.proofs.lent.age_at.Statement.{statement}
+use Rattle.told_places.proofs.lent.age_at.Tie as tie
 
 mul-at-most : tie.Need-mul-at-most
 mul-at-most c = search needs

@@ -4,10 +4,10 @@ use native.Mathlib.Omega.{arith}
 use mathlib.Core.Path.{_≡_, sym, _∙_}
 use borrow.Author.Needs.{needs}
 use Rattle.table.specs.Table.{blank}
-use Rattle.exports_grids.specs.Lent.{entryAt}
-use Rattle.exports_grids.proofs.Stored.{filled, filled-none, filled-more, filled-all}
-use Rattle.exports_grids.proofs.lent.entries_of.Statement.{statement}
-use Rattle.exports_grids.proofs.lent.entries_of.Tie as tie
+use Rattle.told_places.specs.Lent.{entryAt}
+use Rattle.told_places.proofs.Stored.{filled, filled-none, filled-more, filled-all}
+use Rattle.told_places.proofs.lent.entries_of.Statement.{statement}
+use Rattle.told_places.proofs.lent.entries_of.Tie as tie
 
 abbrev Inv-loop : tie.InvT-loop
 Inv-loop counts entries₀ k₀ entries k = (entries ≡ filled (entryAt counts) blank k) × (k ≤ 251)

@@ -3,9 +3,9 @@ use mathlib.Core.Path.{_∙_, ap}
 use mathlib.Core.List.{List, [], _∷_}
 use Prim.Native.Nat.{ℕ}
 use borrow.Author.Needs.{needs}
 use Rattle.told_places.specs.Put.{putAt}
-use Rattle.exports_detect.proofs.put_table.Statement.{statement}
-use Rattle.exports_detect.proofs.put_table.Tie as tie
+use Rattle.told_places.proofs.entries.put_table.Statement.{statement}
+use Rattle.told_places.proofs.entries.put_table.Tie as tie
 
 put-entries-requires : tie.Need-put-entries-requires
 put-entries-requires c κs = search needs
@@ -21,7 +21,7 @@ returns c =
     let counts = c .before .before in
     let entries = counts .before .before .before .before in
     let start = entries .before .before .before in
-    counts .put-counts .ensures ∙ ap (λ (s : List ℕ). putAt s 1004 (start .args .table .n ∷ start .args .stones ∷ start .args .grids ∷ [])) (entries .put-entries .ensures)
+    counts .put-counts .ensures ∙ ap (λ (s : List ℕ). putAt s 1004 (start .args .table .n ∷ start .args .first ∷ start .args .second ∷ [])) (entries .put-entries .ensures)
 
 pub put-table-spec : {M : Type 1} → statement M
 put-table-spec = tie.close (tie.spec put-entries-requires put-counts-requires same-length returns)

@@ -1,8 +1,8 @@
 -- `entry_at` reads three numbers, each held to what its place holds. Assumes nothing.
 use borrow.Author.Needs.{needs}
-use Rattle.exports_grids.specs.Lent.{entryAt}
-use Rattle.exports_grids.proofs.lent.entry_at.Statement.{statement}
-use Rattle.exports_grids.proofs.lent.entry_at.Tie as tie
+use Rattle.told_places.specs.Lent.{entryAt}
+use Rattle.told_places.proofs.lent.entry_at.Statement.{statement}
+use Rattle.told_places.proofs.lent.entry_at.Tie as tie
 
 mul-at-most : tie.Need-mul-at-most
 mul-at-most c = search needs
