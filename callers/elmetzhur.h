@@ -117,6 +117,13 @@ uint8_t elmetzhur_rank(const int32_t *centers, size_t numbers, const double *flo
 uint8_t elmetzhur_fit(uint8_t *pic, size_t n, size_t width, size_t height, uint32_t *stack, size_t entries, uint8_t *scratch, size_t kept,
                       size_t *counts, size_t room, const int32_t *places, size_t numbers, double *floats, size_t coefficients);
 
+/* libexports_regions.a */
+
+/* Looks the piece of (x, y) up: 0, or 1, 2, 3, 5, 9, 6, 10. The table goes in and comes back in counts; counts[1005] holds the piece's colour
+ * afterwards, 2, 3 or 4 for a claimed one, else its number plus 5, counts[1006] its pixels, 0 for a claimed one. At least 1007 places. */
+uint8_t elmetzhur_look_up(uint8_t *pic, size_t n, size_t width, size_t height, uint32_t *stack, size_t entries, size_t x, size_t y,
+                          size_t *counts, size_t room);
+
 #ifdef __cplusplus
 }
 #endif

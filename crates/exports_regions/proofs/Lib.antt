@@ -1,0 +1,2 @@
+mod Colours
+pub mod Determined
