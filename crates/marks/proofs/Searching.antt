@@ -4,7 +4,7 @@ use native.Mathlib.Numerals.{add-one}
 use native.Mathlib.Omega.{arith}
 use mathlib.Core.Path.{_≡_, refl, sym, ap, _∙_, subst}
 use mathlib.Core.Bool.{Bool, true, false, not, cond, _&&_}
-use mathlib.Core.List.{List, [], _∷_, _++_}
+use mathlib.Core.List.{List, [], _∷_, _++_, append-nil}
 use mathlib.Core.Logic.{inl, inr, ⊎-elim}
 use lib.Dec.{leb}
 use lib.IntN.{natAbs}
@@ -39,7 +39,7 @@ use Rattle.corners.specs.declared.all_corners.AllCornerFinder.{AllCornerFinder}
 use Rattle.capstones.specs.declared.CapStone.{CapStone}
 use Rattle.marks.specs.InWork.{InWork, AtCut}
 use Rattle.marks.specs.Stone.{middle, seven, placedStone, centredStone, seenStone, stoneOf}
-use Rattle.marks.specs.Search.{Tries, no-ring, ring, Place, placesOn, cutsFrom, allCuts, Searches, finished, tried, stopped, stonesOf, told, goes, outcome, Laid, Fits, added, Takes}
+use Rattle.marks.specs.Search.{Tries, no-ring, ring, Place, placesOn, cutsFrom, allCuts, Searches, finished, tried, stopped, stonesOf, told, goes, outcome, Laid}
 use Rattle.marks.specs.declared.search.Marks.{Marks}
 use Rattle.marks.proofs.Work.{Goes, goes-on, goes-still}
 use Rattle.marks.proofs.Cut.{tests-go, tests-ringed}
@@ -71,14 +71,41 @@ stone-room f n stone e =
     let p3 = f .left .place in
     seen-room p0 p1 p2 p3 n (sightOf p0 p1 p2 p3 seven seven) stone e
 
-pub tries-fit : {p : List ℕ} {w h y : ℕ} {cut : LinePosition} {T : Table} {n : ℕ} {f : Finding (List CapStone)} {q : List ℕ} {U : Table} → Tries p w h y cut T n f q U → Fits f n
-tries-fit (no-ring X e) stone g = let z : _≡_ {A = ℕ} 0 1 = cc in absurd (omega arith)
-tries-fit {n = n} (ring m X K) stone g = stone-room (K .corners) n stone (sym (K .is) ∙ g)
+-- a stone that a cut adds after n others has room
+pub tries-fit : {p : List ℕ} {w h y : ℕ} {cut : LinePosition} {T : Table} {n : ℕ} {f : Finding (List CapStone)} {q : List ℕ} {U : Table} {stone : CapStone} → Tries p w h y cut T n f q U → f ≡ found (stone ∷ []) → n < mostStones
+tries-fit (no-ring X e) g = let z : _≡_ {A = ℕ} 0 1 = cc in absurd (omega arith)
+tries-fit {n = n} {stone = stone} (ring m X K) g = stone-room (K .corners) n stone (sym (K .is) ∙ g)
 
-pub takes-of : {p : List ℕ} {w h y : ℕ} {cut : LinePosition} {s : Marks} {f : Finding (List CapStone)} {q : List ℕ} {U : Table} {r : Marks}
-    → Tries p w h y cut (s .table) (s .n) f q U → (outcome r ≡ added (stonesOf s) f) × Laid r × (r .table ≡ U) → Takes p w h y cut s q r
-takes-of {p} {w} {h} {y} {cut} {s} {f} {q} X R =
-    record { finding = f; tries = subst (λ (v : Table). Tries p w h y cut (s .table) (s .n) f q v) (sym (R .2)) X; is = R .0; laid = R .1 }
+-- stones, and what one cut more adds
+unfoldable added : List CapStone → Finding (List CapStone) → Finding (List CapStone)
+added l (found new) = found (l ++ new)
+added l (refused n) = refused n
+
+-- a cut of line y is tried, and what it comes to is taken
+pub record Takes (p : List ℕ) (w h y : ℕ) (cut : LinePosition) (s : Marks) (q : List ℕ) (r : Marks) : Type 0 where
+  finding : Finding (List CapStone)
+  tries : Tries p w h y cut (s .table) (s .n) finding q (r .table)
+  is : outcome r ≡ added (stonesOf s) finding
+  pub laid : Laid r
+
+-- what each case of a mark makes of a search: a stone more, the table alone, or a refusal
+module _ {p : List ℕ} {w h y : ℕ} {cut : LinePosition} {s : Marks} {f : Finding (List CapStone)} {q : List ℕ} {U : Table} (X : Tries p w h y cut (s .table) (s .n) f q U) where
+  takes-as : {r : Marks} (g : Finding (List CapStone)) → f ≡ g → (outcome r ≡ added (stonesOf s) g) × Laid r × (r .table ≡ U) → Takes p w h y cut s q r
+  takes-as {r} g e R =
+      let Y : Tries p w h y cut (s .table) (s .n) g q U = rw (← e) X in
+      record { finding = g; tries = subst (λ (v : Table). Tries p w h y cut (s .table) (s .n) g q v) (sym (R .2)) Y; is = R .0; laid = R .1 }
+
+  pub takes-stone : {r : Marks} {stone : CapStone} → f ≡ found (stone ∷ []) → (outcome r ≡ found (stonesOf s ++ (stone ∷ []))) × Laid r × (r .table ≡ U) → Takes p w h y cut s q r
+  unfolding added
+  takes-stone e R = takes-as _ e R
+
+  pub takes-nothing : f ≡ found [] → Laid s → outcome s ≡ found (stonesOf s) → Takes p w h y cut s q (record { stones = s .stones; n = s .n; table = U; verdict = s .verdict })
+  unfolding added
+  takes-nothing e L going = takes-as (found []) e (rw append-nil going, record { few = L .few; count = L .count; stones = L .stones }, refl)
+
+  pub takes-refusal : {r : Marks} {n : ℕ} → f ≡ refused n → (outcome r ≡ refused n) × Laid r × (r .table ≡ U) → Takes p w h y cut s q r
+  unfolding added
+  takes-refusal e R = takes-as _ e R
 
 -- trying a cut keeps the picture in work
 pub tries-go : {p : List ℕ} {w h lent : ℕ} {T : Table} {y : ℕ} {cut : LinePosition} {n : ℕ} {f : Finding (List CapStone)} {q : List ℕ} {U : Table} {room : ℕ}

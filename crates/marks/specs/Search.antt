@@ -78,19 +78,3 @@ pub record Laid (s : Marks) : Type 0 where
   pub few : s .n ≤ mostStones
   pub count : s .n ≡ countIn (outcome s)
   pub stones : s .stones ≡ laidOut (outcome s)
-
--- stones, and what one cut more adds
-unfoldable pub added : List CapStone → Finding (List CapStone) → Finding (List CapStone)
-added l (found new) = found (l ++ new)
-added l (refused n) = refused n
-
--- a stone that a cut adds after n others has room
-abbrev pub Fits : Finding (List CapStone) → ℕ → Type 0
-Fits f n = (stone : CapStone) → f ≡ found (stone ∷ []) → n < mostStones
-
--- a cut of line y is tried, and what it comes to is taken
-pub record Takes (p : List ℕ) (w h y : ℕ) (cut : LinePosition) (s : Marks) (q : List ℕ) (r : Marks) : Type 0 where
-  pub finding : Finding (List CapStone)
-  pub tries : Tries p w h y cut (s .table) (s .n) finding q (r .table)
-  pub is : outcome r ≡ added (stonesOf s) finding
-  pub laid : Laid r

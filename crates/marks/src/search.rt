@@ -21,7 +21,7 @@ ghost use Rattle.refusals.specs.Finding.{found, refusedBy};
 ghost use Rattle.capstones.specs.declared.CapStone.{CapStone};
 ghost use Rattle.marks.specs.InWork.{InWork, AtCut};
 ghost use Rattle.marks.specs.Stone.{meaning};
-ghost use Rattle.marks.specs.Search.{Tries, placesOn, allCuts, Searches, stonesOf, goes, outcome, Laid, Fits, added, Takes};
+ghost use Rattle.marks.specs.Search.{Tries, placesOn, allCuts, Searches, stonesOf, goes, outcome, Laid};
 
 // What a cut comes to, beside the table that trying it leaves.
 pub struct Tried {
@@ -82,20 +82,6 @@ fn with_stone(marks: Marks, stone: CapStone, table: Table) -> Marks
     }
 }
 
-// The marks with no stone more.
-fn with_table(marks: Marks, table: Table) -> Marks
-    requires { ⌜ Laid marks × (outcome marks ≡ found (stonesOf marks)) ⌝ }
-    ensures { λ r. ⌜ (outcome r ≡ found (stonesOf marks ++ [])) × Laid r × (r .table ≡ table) ⌝ }
-{
-    let stones = marks.stones;
-    Marks {
-        stones: stones,
-        n: marks.n,
-        table: table,
-        verdict: Verdict::Sound,
-    }
-}
-
 // An array of blank stones.
 fn blanks() -> [CapStone; 64]
     ensures { λ r. ⌜ r ≡ replicate 64 noStone ⌝ }
@@ -129,38 +115,6 @@ fn no_marks(table: Table) -> Marks
     }
 }
 
-// The marks after a cut: a stone more, none, or a refusal.
-fn taken(marks: Marks, mark: Mark, table: Table) -> Marks
-    requires { ⌜ Laid marks × (outcome marks ≡ found (stonesOf marks)) × Fits (meaning mark) (marks .n) ⌝ }
-    ensures { λ r. ⌜ (outcome r ≡ added (stonesOf marks) (meaning mark)) × Laid r × (r .table ≡ table) ⌝ }
-{
-    match mark {
-        Mark::Stone(stone) => with_stone(marks, stone, table),
-        Mark::Dropped => with_table(marks, table),
-        Mark::Refused(why) => refused(why, table),
-    }
-}
-
-// Tries a cut of line y, and takes what it comes to.
-fn take_cut(
-    pic: &mut [u8],
-    width: usize,
-    height: usize,
-    stack: &mut [u32],
-    marks: Marks,
-    cut: LinePosition,
-    y: usize,
-) -> Marks
-    requires { ⌜ AtCut (now pic) width height (length (now stack)) (marks .table) y cut × Laid marks × (outcome marks ≡ found (stonesOf marks)) ⌝ }
-    ensures { λ r. ⌜ Takes (now (pic .entry)) width height y cut marks (now (pic .exit)) r ⌝ }
-{
-    let table = marks.table;
-    let tried = try_cut(pic, width, height, stack, table, cut, y, marks.n);
-    let mark = tried.mark;
-    let after = tried.table;
-    taken(marks, mark, after)
-}
-
 // Whether nothing is refused so far.
 fn is_sound(verdict: Verdict) -> bool
     ensures { λ r. ⌜ r ≡ goes verdict ⌝ }
@@ -171,7 +125,7 @@ fn is_sound(verdict: Verdict) -> bool
     }
 }
 
-// Searches line y.
+// Searches line y. The stones stay where they are while no stone turns up.
 fn search_line(
     pic: &mut [u8],
     width: usize,
@@ -191,10 +145,19 @@ fn search_line(
         let Advanced::Cut(at, next) = step else {
             return sofar;
         };
-        sofar = take_cut(pic, width, height, stack, sofar, at, y);
-        let verdict = sofar.verdict;
-        if !is_sound(verdict) {
-            return sofar;
+        let tried = try_cut(pic, width, height, stack, sofar.table, at, y, sofar.n);
+        let mark = tried.mark;
+        let after = tried.table;
+        match mark {
+            Mark::Stone(stone) => {
+                sofar = with_stone(sofar, stone, after);
+            }
+            Mark::Dropped => {
+                sofar.table = after;
+            }
+            Mark::Refused(why) => {
+                return refused(why, after);
+            }
         }
         scan = next;
     }

@@ -1,14 +1,14 @@
 -- `search_line` goes from cut to cut, until the line ends or a cut is refused. Assumes nothing.
 use native.Mathlib.Omega.{arith}
 use Prim.Native.Nat.{_*_}
-use mathlib.Core.Path.{_≡_, refl, sym, _∙_}
+use mathlib.Core.Path.{_≡_, refl, ap}
 use lib.ListN.{length}
-use borrow.Author.Tests.{not-true, not-false}
 use borrow.Author.Needs.{needs}
 use Rattle.pieces.proofs.Index.{line-fits}
 use Rattle.scanner.specs.Scan.{ahead}
+use Rattle.marks.specs.Stone.{meaning}
 use Rattle.marks.specs.Search.{stonesOf}
-use Rattle.marks.proofs.Searching.{Along, goes-found, stops-refused, comes, along-begun, along-ends, along-less, along-asks, along-stops, along-next}
+use Rattle.marks.proofs.Searching.{Along, found-stones, comes, tries-fit, takes-stone, takes-nothing, takes-refusal, along-begun, along-ends, along-less, along-asks, along-stops, along-next}
 use Rattle.marks.proofs.search.search_line.Statement.{statement}
 use Rattle.marks.proofs.search.search_line.Tie as tie
 
@@ -54,43 +54,73 @@ returns c =
     let A = c .before .before .before .before .loop .inv .0 in
     (along-ends A (comes (c .enum-told .given .1) (c .before .before .advance .ensures)), A .laid)
 
-take-cut-requires : tie.Need-take-cut-requires Inv-loop μ-loop
-take-cut-requires c κs =
+try-cut-requires : tie.Need-try-cut-requires Inv-loop μ-loop
+try-cut-requires c κs =
     let met = c .before .before .before in
-    let A = met .before .before .before .before .loop .inv .0 in
-    (along-asks A (comes (met .step .given .1) (met .before .before .advance .ensures)), A .laid, A .going)
+    along-asks (met .before .before .before .before .loop .inv .0) (comes (met .step .given .1) (met .before .before .advance .ensures))
 
-is-sound-requires : tie.Need-is-sound-requires Inv-loop μ-loop
-is-sound-requires c κs = search needs
+enum-known-mark : tie.Need-enum-known-mark Inv-loop μ-loop
+enum-known-mark c = search needs
+
+with-stone-requires : tie.Need-with-stone-requires Inv-loop μ-loop
+with-stone-requires c κs =
+    let try = c .before .before .before .before .before .before .before .before in
+    let A = try .before .before .before .before .before .before .before .before .loop .inv .0 in
+    (A .laid, A .going, tries-fit (try .try-cut .ensures) (ap meaning (c .before .mark .given .1)))
+
+enum-told-2 : tie.Need-enum-told-2 Inv-loop μ-loop
+enum-told-2 c = search needs
+
+enum-known-mark-2 : tie.Need-enum-known-mark-2 Inv-loop μ-loop
+enum-known-mark-2 c = search needs
+
+refused-requires : tie.Need-refused-requires Inv-loop μ-loop
+refused-requires c κs = search needs
 
 same-length-3 : tie.Need-same-length-3 Inv-loop μ-loop
-same-length-3 c = search needs
+same-length-3 c =
+    let try = c .before .before .before .before .before .before .before .before .before in
+    omega (arith, try .before .before .before .before .before .before .before .before .loop .inv .1, try .try-cut .kept .0)
 
 same-length-4 : tie.Need-same-length-4 Inv-loop μ-loop
-same-length-4 c = search needs
+same-length-4 c =
+    let try = c .before .before .before .before .before .before .before .before .before in
+    omega (arith, try .before .before .before .before .before .before .before .before .loop .inv .2, try .try-cut .kept .1 .1 .1 .0)
 
 returns-2 : tie.Need-returns-2 Inv-loop μ-loop
 returns-2 c =
-    let take = c .before .before .before .before .before .before in
-    let met = take .before .before .before .before in
-    let A = met .before .before .before .before .loop .inv .0 in
-    let K = take .take-cut .ensures in
-    let r = stops-refused (take .take-cut .result) (sym (c .before .is-sound .ensures) ∙ not-true _ (c .if1 .taken)) in
-    (along-stops A (comes (met .step .given .1) (met .before .before .advance .ensures)) K (r .0) (r .1), K .laid)
+    let try = c .before .before .before .before .before .before .before .before .before in
+    let met = try .before .before .before .before in
+    let R = c .refused .ensures in
+    let K = takes-refusal (try .try-cut .ensures) (ap meaning (c .before .before .mark2 .given .1)) R in
+    (along-stops (met .before .before .before .before .loop .inv .0) (comes (met .step .given .1) (met .before .before .advance .ensures)) K _ (R .0), K .laid)
 
 loop-less : tie.Need-loop-less Inv-loop μ-loop
 loop-less c =
-    let met = c .before .before .before .before .before .before .before .before .before .before in
+    let met = c .before .before .before .before .before .before .before .before .before .before .before .before .before in
     along-less (met .before .before .before .before .loop .inv .0) (comes (met .step .given .1) (met .before .before .advance .ensures))
 
 loop-again : tie.Need-loop-again Inv-loop μ-loop
 loop-again c =
-    let take = c .before .before .before .before .before .before in
-    let met = take .before .before .before .before in
+    let try = c .before .before .before .before .before .before .before .before .before in
+    let met = try .before .before .before .before in
     let A = met .before .before .before .before .loop .inv in
-    let K = take .take-cut .ensures in
-    let e = goes-found (take .take-cut .result) (sym (c .before .is-sound .ensures) ∙ not-false _ (c .if1 .left)) in
-    (along-next (A .0) (comes (met .step .given .1) (met .before .before .advance .ensures)) K (omega (arith, take .take-cut .kept .1 .1 .1 .0)) e, omega (arith, A .1, take .take-cut .kept .0), omega (arith, A .2, take .take-cut .kept .1 .1 .1 .0))
+    let R = c .with-stone .ensures in
+    let K = takes-stone (try .try-cut .ensures) (ap meaning (c .before .before .mark .given .1)) R in
+    (along-next (A .0) (comes (met .step .given .1) (met .before .before .advance .ensures)) K (omega (arith, try .try-cut .kept .1 .1 .1 .0)) (found-stones (c .with-stone .result) _ (R .0) .0), omega (arith, A .1, try .try-cut .kept .0), omega (arith, A .2, try .try-cut .kept .1 .1 .1 .0))
+
+loop-less-2 : tie.Need-loop-less-2 Inv-loop μ-loop
+loop-less-2 c =
+    let met = c .before .before .before .before .before .before .before .before .before .before .before in
+    along-less (met .before .before .before .before .loop .inv .0) (comes (met .step .given .1) (met .before .before .advance .ensures))
+
+loop-again-2 : tie.Need-loop-again-2 Inv-loop μ-loop
+loop-again-2 c =
+    let try = c .before .before .before .before .before .before .before in
+    let met = try .before .before .before .before in
+    let A = met .before .before .before .before .loop .inv in
+    let K = takes-nothing (try .try-cut .ensures) (ap meaning (c .enum-told2 .given .1)) (A .0 .laid) (A .0 .going) in
+    (along-next (A .0) (comes (met .step .given .1) (met .before .before .advance .ensures)) K (omega (arith, try .try-cut .kept .1 .1 .1 .0)) (A .0 .going), omega (arith, A .1, try .try-cut .kept .0), omega (arith, A .2, try .try-cut .kept .1 .1 .1 .0))
 
 pub search-line-spec : {M : Type 1} → statement M
 search-line-spec =
@@ -107,10 +137,16 @@ search-line-spec =
     same-length
     same-length-2
     returns
-    take-cut-requires
-    is-sound-requires
+    try-cut-requires
+    enum-known-mark
+    with-stone-requires
+    enum-told-2
+    enum-known-mark-2
+    refused-requires
     same-length-3
     same-length-4
     returns-2
     loop-less
-    loop-again)
+    loop-again
+    loop-less-2
+    loop-again-2)
