@@ -88,6 +88,13 @@ pub record Takes (p : List ℕ) (w h y : ℕ) (cut : LinePosition) (s : Marks) (
   is : outcome r ≡ added (stonesOf s) finding
   pub laid : Laid r
 
+-- the stones stand as they did beside another table
+abbrev pub withTable : Marks → Table → Marks
+withTable s U = record { stones = s .stones; n = s .n; table = U; verdict = s .verdict }
+
+pub still-laid : {s : Marks} (U : Table) → Laid s → Laid (withTable s U)
+still-laid U L = record { few = L .few; count = L .count; stones = L .stones }
+
 -- what each case of a mark makes of a search: a stone more, the table alone, or a refusal
 module _ {p : List ℕ} {w h y : ℕ} {cut : LinePosition} {s : Marks} {f : Finding (List CapStone)} {q : List ℕ} {U : Table} (X : Tries p w h y cut (s .table) (s .n) f q U) where
   takes-as : {r : Marks} (g : Finding (List CapStone)) → f ≡ g → (outcome r ≡ added (stonesOf s) g) × Laid r × (r .table ≡ U) → Takes p w h y cut s q r
@@ -99,9 +106,9 @@ module _ {p : List ℕ} {w h y : ℕ} {cut : LinePosition} {s : Marks} {f : Find
   unfolding added
   takes-stone e R = takes-as _ e R
 
-  pub takes-nothing : f ≡ found [] → Laid s → outcome s ≡ found (stonesOf s) → Takes p w h y cut s q (record { stones = s .stones; n = s .n; table = U; verdict = s .verdict })
+  pub takes-nothing : f ≡ found [] → Laid s → outcome s ≡ found (stonesOf s) → Takes p w h y cut s q (withTable s U)
   unfolding added
-  takes-nothing e L going = takes-as (found []) e (rw append-nil going, record { few = L .few; count = L .count; stones = L .stones }, refl)
+  takes-nothing e L going = takes-as (found []) e (rw append-nil going, still-laid U L, refl)
 
   pub takes-refusal : {r : Marks} {n : ℕ} → f ≡ refused n → (outcome r ≡ refused n) × Laid r × (r .table ≡ U) → Takes p w h y cut s q r
   unfolding added

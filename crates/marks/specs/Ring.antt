@@ -4,7 +4,9 @@ use mathlib.Core.Path.{_≡_}
 use mathlib.Core.Bool.{Bool, false, not, _&&_}
 use mathlib.Core.List.{List}
 use lib.Dec.{eqb}
+use lib.ListN.{length}
 use Rattle.refusals.specs.Finding.{Finding, found, refused}
+use Rattle.picture.specs.Sides.{Sized}
 use Rattle.pieces.specs.Picture.{px}
 use Rattle.table.specs.declared.Table.{Table}
 use Rattle.regions.specs.Found.{Answer, claimed, unclaimed}
@@ -34,7 +36,20 @@ paired (found (unclaimed ring)) (refused n) = false
 paired (found (claimed colour)) f = false
 paired (refused n) f = false
 
--- the test at a cut of line y: the ring is looked up, then the stone; then "left and right pixels equal after both lookups", and the two regions are tested
+-- "left and right pixels equal after both lookups", and the two regions make a pair
+abbrev pub passes : List ℕ → ℕ → ℕ → LinePosition → Finding Answer → Finding Answer → Bool
+passes q w y cut ring stone = eqb (px q w (cut .left) y) (px q w (cut .right) y) && paired ring stone
+
+-- both columns are in the picture, and the counts can be compared
+pub record Testable (q : List ℕ) (w h y : ℕ) (cut : LinePosition) (ring stone : Finding Answer) : Type 0 where
+  pub sized : Sized w h (length q)
+  pub left-on : cut .left < w
+  pub right-on : cut .right < w
+  pub in-y : y < h
+  pub ring-counted : Countable ring
+  pub stone-counted : Countable stone
+
+-- the test at a cut of line y: the ring is looked up, then the stone, and then they are tested
 pub record Tests (p : List ℕ) (w h y : ℕ) (cut : LinePosition) (T : Table) (verdict : Bool) (q : List ℕ) (U : Table) : Type 0 where
   pub ring : Answer
   pub between : List ℕ
@@ -42,4 +57,4 @@ pub record Tests (p : List ℕ) (w h y : ℕ) (cut : LinePosition) (T : Table) (
   pub ring-first : Looks p w h (cut .right) y T ring between among
   pub stone : Answer
   pub stone-then : Looks between w h (cut .stone) y among stone q U
-  pub is : verdict ≡ (eqb (px q w (cut .left) y) (px q w (cut .right) y) && paired (found ring) (found stone))
+  pub is : verdict ≡ passes q w y cut (found ring) (found stone)

@@ -13,14 +13,25 @@ use Rattle.scanner.specs.Cuts.{lineCuts}
 use Rattle.scanner.specs.declared.LinePosition.{LinePosition}
 use Rattle.capstones.specs.Blank.{noStone}
 use Rattle.capstones.specs.declared.CapStone.{CapStone}
-use Rattle.marks.specs.Ring.{Tests}
-use Rattle.marks.specs.Stone.{Creates}
+use Rattle.regions.specs.Found.{Answer}
+use Rattle.marks.specs.Ring.{Testable, passes, Tests}
+use Rattle.marks.specs.Stone.{Ringed, Creates}
 use Rattle.marks.specs.declared.search.Marks.{Marks}
 
 -- a cut of line y is tried, after n stones: where its ring test passes, its stone is made
 pub data Tries (p : List ℕ) (w h y : ℕ) (cut : LinePosition) (T : Table) (n : ℕ) (f : Finding (List CapStone)) (q : List ℕ) (U : Table) : Type 0 where
   no-ring : Tests p w h y cut T false q U → f ≡ found [] → Tries p w h y cut T n f q U
   ring : (m : List ℕ) → Tests p w h y cut T true m U → Creates m w h (cut .right) y n f q → Tries p w h y cut T n f q U
+
+-- a cut whose ring and stone are looked up can be tested, and a ring that passes can be filled
+pub record Markable (m : List ℕ) (w h lent y : ℕ) (cut : LinePosition) (ring stone : Finding Answer) : Type 0 where
+  pub testable : Testable m w h y cut ring stone
+  pub ringed : passes m w y cut ring stone ≡ true → Ringed m w h lent (cut .right) y
+
+-- what such a cut comes to, after n stones
+pub data Marked (m : List ℕ) (w h y : ℕ) (cut : LinePosition) (ring stone : Finding Answer) (n : ℕ) (f : Finding (List CapStone)) (q : List ℕ) : Type 0 where
+  no-mark : passes m w y cut ring stone ≡ false → f ≡ found [] → q ≡ m → Marked m w h y cut ring stone n f q
+  a-mark : passes m w y cut ring stone ≡ true → Creates m w h (cut .right) y n f q → Marked m w h y cut ring stone n f q
 
 -- a cut, and the line that it is on
 pub record Place : Type 0 where

@@ -5,7 +5,6 @@ mod search;
 mod stone;
 
 pub use bitmap::search_bitmap;
-pub use ring::Tested;
 pub use ring::is_capstone;
 pub use search::Marks;
 pub use search::capstones_from_image;

@@ -1,10 +1,8 @@
 // The ring test: whether a cut goes through a ring and its stone (detect.rs, `is_capstone`).
 use regions::ColoredRegion;
 use regions::Region;
-use regions::get_region;
 use rings::is_ring_like;
 use scanner::LinePosition;
-use table::Table;
 ghost use mathlib.Core.Path.{_≡_};
 ghost use Prim.Native.Nat.{_<_};
 ghost use lib.Dec.{eqb};
@@ -12,14 +10,7 @@ ghost use lib.ListN.{length};
 ghost use Rattle.picture.specs.Sides.{Sized};
 ghost use Rattle.pieces.specs.Picture.{px};
 ghost use Rattle.regions.specs.Found.{meaning};
-ghost use Rattle.marks.specs.InWork.{AtCut};
-ghost use Rattle.marks.specs.Ring.{Countable, Counted, suits, paired, Tests};
-
-// The answer of a ring test, beside the table that its lookups leave.
-pub struct Tested {
-    pub ring: bool,
-    pub table: Table,
-}
+ghost use Rattle.marks.specs.Ring.{Countable, Counted, Testable, suits, paired, passes};
 
 // Whether a stone suits a ring: of another number, and of a size that the ring asks for.
 fn is_suited(outer: Region, inner: Region) -> bool
@@ -57,33 +48,21 @@ fn is_same(pic: &[u8], width: usize, height: usize, left: usize, right: usize, y
     pic[base + left] == pic[base + right]
 }
 
-// Looks up the ring at a cut of line y, then the stone, and tests them.
+// Whether a cut of line y goes through a ring and its stone, once both are looked up.
 pub fn is_capstone(
-    pic: &mut [u8],
+    pic: &[u8],
     width: usize,
     height: usize,
-    stack: &mut [u32],
-    table: Table,
     cut: LinePosition,
     y: usize,
-) -> Tested
-    requires { ⌜ AtCut (now pic) width height (length (now stack)) table y cut ⌝ }
-    ensures { λ r. ⌜ Tests (now (pic .entry)) width height y cut table (r .ring) (now (pic .exit)) (r .table) ⌝ }
+    ring: ColoredRegion,
+    stone: ColoredRegion,
+) -> bool
+    requires { ⌜ Testable (now pic) width height y cut (meaning ring) (meaning stone) ⌝ }
+    ensures { λ r. ⌜ r ≡ passes (now (pic .entry)) width y cut (meaning ring) (meaning stone) ⌝ }
 {
-    let ring = get_region(pic, width, height, stack, table, cut.right, y);
-    let among = ring.table;
-    let stone = get_region(pic, width, height, stack, among, cut.stone, y);
-    let after = stone.table;
     if !is_same(pic, width, height, cut.left, cut.right, y) {
-        return Tested {
-            ring: false,
-            table: after,
-        };
+        return false;
     }
-    let outer = ring.found;
-    let inner = stone.found;
-    Tested {
-        ring: is_pair(outer, inner),
-        table: after,
-    }
+    is_pair(ring, stone)
 }

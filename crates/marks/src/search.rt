@@ -6,6 +6,8 @@ use capstones::CapStone;
 use capstones::blank;
 use picture::Verdict;
 use refusals::Refusal;
+use regions::ColoredRegion;
+use regions::get_region;
 use scanner::Advanced;
 use scanner::LinePosition;
 use scanner::LineScanner;
@@ -19,15 +21,10 @@ ghost use Rattle.scanner.specs.Cuts.{lineCuts};
 ghost use Rattle.capstones.specs.Blank.{noStone};
 ghost use Rattle.refusals.specs.Finding.{found, refusedBy};
 ghost use Rattle.capstones.specs.declared.CapStone.{CapStone};
-ghost use Rattle.marks.specs.InWork.{InWork, AtCut};
+ghost use Rattle.regions.specs.Found as regions;
+ghost use Rattle.marks.specs.InWork.{InWork};
 ghost use Rattle.marks.specs.Stone.{meaning};
-ghost use Rattle.marks.specs.Search.{Tries, placesOn, allCuts, Searches, stonesOf, goes, outcome, Laid};
-
-// What a cut comes to, beside the table that trying it leaves.
-pub struct Tried {
-    pub mark: Mark,
-    pub table: Table,
-}
+ghost use Rattle.marks.specs.Search.{Markable, Marked, placesOn, allCuts, Searches, stonesOf, goes, outcome, Laid};
 
 // What a search has found: the stones, which are the first n of the array, or why it refuses. Every other place of the array is blank.
 pub struct Marks {
@@ -37,41 +34,34 @@ pub struct Marks {
     pub verdict: Verdict,
 }
 
-// Tries a cut of line y, after n stones.
-fn try_cut(
+// What a cut of line y comes to, after n stones, once its ring and its stone are looked up: nothing where the ring test fails.
+fn mark_at(
     pic: &mut [u8],
     width: usize,
     height: usize,
     stack: &mut [u32],
-    table: Table,
     cut: LinePosition,
     y: usize,
+    ring: ColoredRegion,
+    stone: ColoredRegion,
     n: usize,
-) -> Tried
-    requires { ⌜ AtCut (now pic) width height (length (now stack)) table y cut ⌝ }
-    ensures { λ r. ⌜ Tries (now (pic .entry)) width height y cut table n (meaning (r .mark)) (now (pic .exit)) (r .table) ⌝ }
+) -> Mark
+    requires { ⌜ Markable (now pic) width height (length (now stack)) y cut (regions.meaning ring) (regions.meaning stone) ⌝ }
+    ensures { λ r. ⌜ Marked (now (pic .entry)) width height y cut (regions.meaning ring) (regions.meaning stone) n (meaning r) (now (pic .exit)) ⌝ }
 {
-    let tested = is_capstone(pic, width, height, stack, table, cut, y);
-    let after = tested.table;
-    if !tested.ring {
-        return Tried {
-            mark: Mark::Dropped,
-            table: after,
-        };
+    if !is_capstone(pic, width, height, cut, y, ring, stone) {
+        return Mark::Dropped;
     }
-    let mark = create_capstone(pic, width, height, stack, cut.right, y, n);
-    Tried {
-        mark: mark,
-        table: after,
-    }
+    create_capstone(pic, width, height, stack, cut.right, y, n)
 }
 
 // The marks with one stone more.
-fn with_stone(marks: Marks, stone: CapStone, table: Table) -> Marks
+fn with_stone(marks: Marks, stone: CapStone) -> Marks
     requires { ⌜ Laid marks × (outcome marks ≡ found (stonesOf marks)) × (marks .n < 64) ⌝ }
-    ensures { λ r. ⌜ (outcome r ≡ found (stonesOf marks ++ (stone ∷ []))) × Laid r × (r .table ≡ table) ⌝ }
+    ensures { λ r. ⌜ (outcome r ≡ found (stonesOf marks ++ (stone ∷ []))) × Laid r × (r .table ≡ marks .table) ⌝ }
 {
     let mut stones = marks.stones;
+    let table = marks.table;
     let n = marks.n;
     stones[n] = stone;
     Marks {
@@ -125,7 +115,7 @@ fn is_sound(verdict: Verdict) -> bool
     }
 }
 
-// Searches line y. The stones stay where they are while no stone turns up.
+// Searches line y: at each cut the ring is looked up, then the stone. The stones found stay where they are while no other turns up.
 fn search_line(
     pic: &mut [u8],
     width: usize,
@@ -145,16 +135,18 @@ fn search_line(
         let Advanced::Cut(at, next) = step else {
             return sofar;
         };
-        let tried = try_cut(pic, width, height, stack, sofar.table, at, y, sofar.n);
-        let mark = tried.mark;
-        let after = tried.table;
-        match mark {
-            Mark::Stone(stone) => {
-                sofar = with_stone(sofar, stone, after);
+        let ring = get_region(pic, width, height, stack, sofar.table, at.right, y);
+        let among = ring.table;
+        let stone = get_region(pic, width, height, stack, among, at.stone, y);
+        let after = stone.table;
+        let outer = ring.found;
+        let inner = stone.found;
+        sofar.table = after;
+        match mark_at(pic, width, height, stack, at, y, outer, inner, sofar.n) {
+            Mark::Stone(found) => {
+                sofar = with_stone(sofar, found);
             }
-            Mark::Dropped => {
-                sofar.table = after;
-            }
+            Mark::Dropped => {}
             Mark::Refused(why) => {
                 return refused(why, after);
             }

@@ -1,6 +1,6 @@
 -- `search_line` goes from cut to cut, until the line ends or a cut is refused. Assumes nothing.
 use native.Mathlib.Omega.{arith}
-use Prim.Native.Nat.{_*_}
+use Prim.Native.Nat.{_*_, _≤_}
 use mathlib.Core.Path.{_≡_, refl, ap}
 use lib.ListN.{length}
 use borrow.Author.Needs.{needs}
@@ -8,7 +8,8 @@ use Rattle.pieces.proofs.Index.{line-fits}
 use Rattle.scanner.specs.Scan.{ahead}
 use Rattle.marks.specs.Stone.{meaning}
 use Rattle.marks.specs.Search.{stonesOf}
-use Rattle.marks.proofs.Searching.{Along, found-stones, comes, tries-fit, takes-stone, takes-nothing, takes-refusal, along-begun, along-ends, along-less, along-asks, along-stops, along-next}
+use Rattle.marks.proofs.Cut.{ring-lookable, stone-lookable, markable, tries-of}
+use Rattle.marks.proofs.Searching.{Along, found-stones, still-laid, comes, tries-fit, takes-stone, takes-nothing, takes-refusal, along-begun, along-ends, along-less, along-asks, along-stops, along-next}
 use Rattle.marks.proofs.search.search_line.Statement.{statement}
 use Rattle.marks.proofs.search.search_line.Tie as tie
 
@@ -54,73 +55,113 @@ returns c =
     let A = c .before .before .before .before .loop .inv .0 in
     (along-ends A (comes (c .enum-told .given .1) (c .before .before .advance .ensures)), A .laid)
 
-try-cut-requires : tie.Need-try-cut-requires Inv-loop μ-loop
-try-cut-requires c κs =
+get-region-requires : tie.Need-get-region-requires Inv-loop μ-loop
+get-region-requires c κs =
     let met = c .before .before .before in
-    along-asks (met .before .before .before .before .loop .inv .0) (comes (met .step .given .1) (met .before .before .advance .ensures))
+    ring-lookable (along-asks (met .before .before .before .before .loop .inv .0) (comes (met .step .given .1) (met .before .before .advance .ensures)))
 
-enum-known-mark : tie.Need-enum-known-mark Inv-loop μ-loop
-enum-known-mark c = search needs
+-- the room that each lookup leaves lent
+room-after : (c : tie.After-get-region Inv-loop μ-loop) → length (c .before .before .before .before .before .before .before .before .loop .stack) ≤ length (c .get-region .last .1 .1 .1 .0)
+room-after c = omega (arith, c .get-region .kept .1 .1 .1 .0)
+
+room-then : (c : tie.After-get-region2 Inv-loop μ-loop) → length (c .before .before .before .before .before .before .before .before .get-region .last .1 .1 .1 .0) ≤ length (c .get-region2 .last .1 .1 .1 .0)
+room-then c = omega (arith, c .get-region2 .kept .1 .1 .1 .0)
+
+get-region-requires-2 : tie.Need-get-region-requires-2 Inv-loop μ-loop
+get-region-requires-2 c κs =
+    let first = c .before .before .before .before .before .before .before in
+    let met = first .before .before .before .before in
+    stone-lookable (along-asks (met .before .before .before .before .loop .inv .0) (comes (met .step .given .1) (met .before .before .advance .ensures))) (room-after first) (first .get-region .ensures)
+
+mark-at-requires : tie.Need-mark-at-requires Inv-loop μ-loop
+mark-at-requires c κs =
+    let second = c .before .before .before .before .before .before .before in
+    let first = second .before .before .before .before .before .before .before .before in
+    let met = first .before .before .before .before in
+    markable (first .get-region .ensures) (second .get-region2 .ensures) (along-asks (met .before .before .before .before .loop .inv .0) (comes (met .step .given .1) (met .before .before .advance .ensures))) (room-after first) (room-then second)
+
+enum-known-found : tie.Need-enum-known-found Inv-loop μ-loop
+enum-known-found c = search needs
 
 with-stone-requires : tie.Need-with-stone-requires Inv-loop μ-loop
 with-stone-requires c κs =
-    let try = c .before .before .before .before .before .before .before .before in
-    let A = try .before .before .before .before .before .before .before .before .loop .inv .0 in
-    (A .laid, A .going, tries-fit (try .try-cut .ensures) (ap meaning (c .before .mark .given .1)))
+    let third = c .before .before .before .before .before .before .before in
+    let second = third .before .before .before .before .before .before .before .before in
+    let first = second .before .before .before .before .before .before .before .before in
+    let met = first .before .before .before .before in
+    let A = met .before .before .before .before .loop .inv .0 in
+    (still-laid _ (A .laid), A .going, tries-fit (tries-of (first .get-region .ensures) (second .get-region2 .ensures) (third .mark-at .ensures)) (ap meaning (c .before .found .given .1)))
 
 enum-told-2 : tie.Need-enum-told-2 Inv-loop μ-loop
 enum-told-2 c = search needs
 
-enum-known-mark-2 : tie.Need-enum-known-mark-2 Inv-loop μ-loop
-enum-known-mark-2 c = search needs
+enum-known-why : tie.Need-enum-known-why Inv-loop μ-loop
+enum-known-why c = search needs
 
 refused-requires : tie.Need-refused-requires Inv-loop μ-loop
 refused-requires c κs = search needs
 
+-- the lengths after a cut are those before it
+pic-kept : (c : tie.After-mark-at Inv-loop μ-loop) → length (c .mark-at .last .0) ≡ length (c .before .before .before .before .before .before .before .before .before .before .before .before .before .before .before .before .before .before .before .before .before .before .before .before .loop .pic)
+pic-kept c =
+    let second = c .before .before .before .before .before .before .before .before in
+    omega (arith, c .mark-at .kept .0, second .get-region2 .kept .0, second .before .before .before .before .before .before .before .before .get-region .kept .0)
+
+stack-kept : (c : tie.After-mark-at Inv-loop μ-loop) → length (c .mark-at .last .1 .1 .1 .0) ≡ length (c .before .before .before .before .before .before .before .before .before .before .before .before .before .before .before .before .before .before .before .before .before .before .before .before .loop .stack)
+stack-kept c =
+    let second = c .before .before .before .before .before .before .before .before in
+    omega (arith, c .mark-at .kept .1 .1 .1 .0, second .get-region2 .kept .1 .1 .1 .0, second .before .before .before .before .before .before .before .before .get-region .kept .1 .1 .1 .0)
+
 same-length-3 : tie.Need-same-length-3 Inv-loop μ-loop
 same-length-3 c =
-    let try = c .before .before .before .before .before .before .before .before .before in
-    omega (arith, try .before .before .before .before .before .before .before .before .loop .inv .1, try .try-cut .kept .0)
+    let third = c .before .before .before .before .before .before .before .before in
+    omega (arith, third .before .before .before .before .before .before .before .before .before .before .before .before .before .before .before .before .before .before .before .before .before .before .before .before .loop .inv .1, pic-kept third)
 
 same-length-4 : tie.Need-same-length-4 Inv-loop μ-loop
 same-length-4 c =
-    let try = c .before .before .before .before .before .before .before .before .before in
-    omega (arith, try .before .before .before .before .before .before .before .before .loop .inv .2, try .try-cut .kept .1 .1 .1 .0)
+    let third = c .before .before .before .before .before .before .before .before in
+    omega (arith, third .before .before .before .before .before .before .before .before .before .before .before .before .before .before .before .before .before .before .before .before .before .before .before .before .loop .inv .2, stack-kept third)
 
 returns-2 : tie.Need-returns-2 Inv-loop μ-loop
 returns-2 c =
-    let try = c .before .before .before .before .before .before .before .before .before in
-    let met = try .before .before .before .before in
+    let third = c .before .before .before .before .before .before .before .before in
+    let second = third .before .before .before .before .before .before .before .before in
+    let first = second .before .before .before .before .before .before .before .before in
+    let met = first .before .before .before .before in
     let R = c .refused .ensures in
-    let K = takes-refusal (try .try-cut .ensures) (ap meaning (c .before .before .mark2 .given .1)) R in
+    let K = takes-refusal (tries-of (first .get-region .ensures) (second .get-region2 .ensures) (third .mark-at .ensures)) (ap meaning (c .before .before .why .given .1)) R in
     (along-stops (met .before .before .before .before .loop .inv .0) (comes (met .step .given .1) (met .before .before .advance .ensures)) K _ (R .0), K .laid)
 
 loop-less : tie.Need-loop-less Inv-loop μ-loop
 loop-less c =
-    let met = c .before .before .before .before .before .before .before .before .before .before .before .before .before in
+    let met = c .before .before .before .before .before .before .before .before .before .before .before .before .before .before .before .before .before .before .before .before .before .before .before .before .before .before .before .before in
     along-less (met .before .before .before .before .loop .inv .0) (comes (met .step .given .1) (met .before .before .advance .ensures))
 
 loop-again : tie.Need-loop-again Inv-loop μ-loop
 loop-again c =
-    let try = c .before .before .before .before .before .before .before .before .before in
-    let met = try .before .before .before .before in
+    let third = c .before .before .before .before .before .before .before .before in
+    let second = third .before .before .before .before .before .before .before .before in
+    let first = second .before .before .before .before .before .before .before .before in
+    let met = first .before .before .before .before in
     let A = met .before .before .before .before .loop .inv in
     let R = c .with-stone .ensures in
-    let K = takes-stone (try .try-cut .ensures) (ap meaning (c .before .before .mark .given .1)) R in
-    (along-next (A .0) (comes (met .step .given .1) (met .before .before .advance .ensures)) K (omega (arith, try .try-cut .kept .1 .1 .1 .0)) (found-stones (c .with-stone .result) _ (R .0) .0), omega (arith, A .1, try .try-cut .kept .0), omega (arith, A .2, try .try-cut .kept .1 .1 .1 .0))
+    let K = takes-stone (tries-of (first .get-region .ensures) (second .get-region2 .ensures) (third .mark-at .ensures)) (ap meaning (c .before .before .found .given .1)) R in
+    (along-next (A .0) (comes (met .step .given .1) (met .before .before .advance .ensures)) K (omega (arith, stack-kept third)) (found-stones (c .with-stone .result) _ (R .0) .0), omega (arith, A .1, pic-kept third), omega (arith, A .2, stack-kept third))
 
 loop-less-2 : tie.Need-loop-less-2 Inv-loop μ-loop
 loop-less-2 c =
-    let met = c .before .before .before .before .before .before .before .before .before .before .before in
+    let met = c .before .before .before .before .before .before .before .before .before .before .before .before .before .before .before .before .before .before .before .before .before .before .before .before .before .before in
     along-less (met .before .before .before .before .loop .inv .0) (comes (met .step .given .1) (met .before .before .advance .ensures))
 
 loop-again-2 : tie.Need-loop-again-2 Inv-loop μ-loop
 loop-again-2 c =
-    let try = c .before .before .before .before .before .before .before in
-    let met = try .before .before .before .before in
+    let third = c .before .before .before .before .before .before in
+    let second = third .before .before .before .before .before .before .before .before in
+    let first = second .before .before .before .before .before .before .before .before in
+    let met = first .before .before .before .before in
     let A = met .before .before .before .before .loop .inv in
-    let K = takes-nothing (try .try-cut .ensures) (ap meaning (c .enum-told2 .given .1)) (A .0 .laid) (A .0 .going) in
-    (along-next (A .0) (comes (met .step .given .1) (met .before .before .advance .ensures)) K (omega (arith, try .try-cut .kept .1 .1 .1 .0)) (A .0 .going), omega (arith, A .1, try .try-cut .kept .0), omega (arith, A .2, try .try-cut .kept .1 .1 .1 .0))
+    let K = takes-nothing (tries-of (first .get-region .ensures) (second .get-region2 .ensures) (third .mark-at .ensures)) (ap meaning (c .enum-told2 .given .1)) (A .0 .laid) (A .0 .going) in
+    (along-next (A .0) (comes (met .step .given .1) (met .before .before .advance .ensures)) K (omega (arith, stack-kept third)) (A .0 .going), omega (arith, A .1, pic-kept third), omega (arith, A .2, stack-kept third))
 
 pub search-line-spec : {M : Type 1} → statement M
 search-line-spec =
@@ -137,11 +178,13 @@ search-line-spec =
     same-length
     same-length-2
     returns
-    try-cut-requires
-    enum-known-mark
+    get-region-requires
+    get-region-requires-2
+    mark-at-requires
+    enum-known-found
     with-stone-requires
     enum-told-2
-    enum-known-mark-2
+    enum-known-why
     refused-requires
     same-length-3
     same-length-4

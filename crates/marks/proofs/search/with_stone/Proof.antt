@@ -17,8 +17,8 @@ add-t6 c = search needs
 
 returns : tie.Need-returns
 returns c =
-    let s = c .before .pre in
-    let stone = c .before .args .stone in
+    let s = c .before .before .pre in
+    let stone = c .before .before .args .stone in
     let L = laid-found _ _ (count-more (s .0) (s .1) stone) (omega (arith, s .2)) refl (one-more (s .0) (s .1) stone (s .2)) in
     (L .0, L .1, refl)
 
