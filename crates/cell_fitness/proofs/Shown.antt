@@ -1,4 +1,4 @@
--- What `seenAt` says beside the picture and inside, and that the two places of a mapped point are what `pointOf` looks at. Assumes nothing.
+-- What `seenAt` says beside the picture and inside, and that `pointOf` and `lineOf` are what is shown where their points lie. Assumes nothing.
 use Prim.Native.Nat.{ℕ, _+_, _^_, _≤_, _<_}
 use native.Mathlib.Omega.{arith}
 use mathlib.Core.Path.{_≡_, refl, _∙_}
@@ -16,8 +16,9 @@ use Rattle.rounding.specs.declared.Whole.{Whole}
 use Rattle.rounding.specs.declared.Whole.the-variants.{At, Off}
 use Rattle.geometry.specs.Map.{placed, mapX, mapY, mapped}
 use Rattle.geometry.specs.declared.Perspective.{Perspective}
-use Rattle.cell_fitness.specs.Seen.{darkAt, darkIn, pointOf}
+use Rattle.cell_fitness.specs.Seen.{darkAt, darkIn, pointOf, lineOf}
 use Rattle.cell_fitness.specs.Along.{along, besideAt, seenAt}
+use Rattle.cell_fitness.specs.Landed.{landed, landedLine, pointAt, lineAt}
 use Rattle.cell_fitness.proofs.Places.{few}
 
 -- two places of which no pixel has both
@@ -71,6 +72,12 @@ module _ (pic : List ℕ) (width height : ℕ) where
     seen-in (At (negsuc a)) Off f g = nowhere-down (2 ^ 31) (2 ^ 31 + 1) (omega arith) (omega arith) ∙ seen-behind (2 ^ 31) (2 ^ 31 + 1) (omega arith)
     seen-in Off q f g = nowhere-across (2 ^ 31 + 1) (along q) (omega arith) ∙ seen-behind (2 ^ 31 + 1) (along q) (omega arith)
 
-    pub seen-point : (c : Perspective) (u v : Float) → pointOf pic width height c u v ≡ seenAt pic width height (along (nearestOf (mapX c u v))) (along (nearestOf (mapY c u v)))
-    unfolding pointOf mapped
-    seen-point c u v = seen-in (nearestOf (mapX c u v)) (nearestOf (mapY c u v)) (few (mapX c u v)) (few (mapY c u v))
+    -- what is shown where a point of the grid lies is that point
+    pub point-landed : (c : Perspective) (u v : Float) → pointOf pic width height c u v ≡ pointAt pic width height (landed c u v)
+    unfolding pointOf mapped pointAt landed
+    point-landed c u v = seen-in (nearestOf (mapX c u v)) (nearestOf (mapY c u v)) (few (mapX c u v)) (few (mapY c u v))
+
+    -- and the same of the three points of a line
+    pub line-landed : (c : Perspective) (x v : Float) → lineOf pic width height c x v ≡ lineAt pic width height (landedLine c x v)
+    unfolding lineOf lineAt landedLine
+    line-landed c x v = simp (point-landed c)

@@ -1,16 +1,14 @@
 -- Sums of scores: they can be taken part by part. Assumes nothing.
-use Prim.Native.Nat.{ℕ, _+_, _≤_}
+use Prim.Native.Nat.{ℕ, _+_, _*_, _≤_}
 use native.Mathlib.Nat.{le-refl}
-use native.Mathlib.Numerals.{add-one}
 use native.Mathlib.Omega.{arith}
-use mathlib.Core.Path.{_≡_, refl, ap, _∙_}
+use mathlib.Core.Path.{_≡_, refl, ap}
 use lib.IntN.{ℤ, pos, +ℤ-idl, +ℤ-idr, +ℤ-assoc, negℤ-+ℤ}
 use Rattle.refusals.specs.Finding.{Finding, found, refused}
 use Rattle.sizes.proofs.Size.{size-add, size-neg}
-use Rattle.cell_fitness.specs.Score.{_⊞_, several, opposite, extent}
+use Rattle.cell_fitness.specs.Score.{_⊞_, opposite, extent}
 use Rattle.cell_fitness.specs.Scores.{meaning, Scores}
 use Rattle.cell_fitness.specs.declared.Fitness.{Fitness}
-use Rattle.cell_fitness.specs.declared.Fitness.the-variants.{Score}
 
 pub plus-assoc : (a b c : Finding ℤ) → a ⊞ b ⊞ c ≡ a ⊞ (b ⊞ c)
 unfolding _⊞_
@@ -54,19 +52,10 @@ scores-sum f g r e = record { is = e; small = rw e (extent-plus f g) }
 pub scores-opposite : (f : Finding ℤ) (r : Fitness) → meaning r ≡ opposite f → Scores (opposite f) (extent f) r
 scores-opposite f r e = record { is = e; small = rw (e, extent-opposite) (le-refl (extent f)) }
 
--- answers taken one after the other
-pub none-yet : (f : ℕ → Finding ℤ) → Scores (several f 0) 0 (Score (pos 0))
-unfolding several extent
-none-yet f = record { is = refl; small = le-refl 0 }
-
-pub one-more : (f : ℕ → Finding ℤ) (k : ℕ) {most more n : ℕ} {before this r : Fitness} → Scores (several f k) most before → Scores (f k) more this → Scores (meaning before ⊞ meaning this) (extent (meaning before) + extent (meaning this)) r → most + more ≤ n → Scores (several f (k + 1)) n r
-unfolding several
-one-more f k p q s few =
+-- three answers taken one after the other
+pub scores-three : {f g h : Finding ℤ} {most : ℕ} {a b d two r : Fitness} → Scores f most a → Scores g most b → Scores h most d → Scores (meaning a ⊞ meaning b) (extent (meaning a) + extent (meaning b)) two → Scores (meaning two ⊞ meaning d) (extent (meaning two) + extent (meaning d)) r → Scores (f ⊞ g ⊞ h) (3 * most) r
+scores-three p q t both all =
     record {
-      is = s .is ∙ rw (p .is, q .is, add-one);
-      small = let a = s .small in let b = p .small in let d = q .small in omega arith;
+      is = rw (all .is, both .is, p .is, q .is, t .is);
+      small = let a = all .small in let b = both .small in let x = p .small in let y = q .small in let z = t .small in omega arith;
     }
-
-pub three : (f : ℕ → Finding ℤ) → several f 3 ≡ f 0 ⊞ f 1 ⊞ f 2
-unfolding several
-three f = rw (nothing-plus (f 0))

@@ -1,4 +1,5 @@
 pub mod Score
 pub mod Seen
 pub mod Along
+pub mod Landed
 pub mod Scores

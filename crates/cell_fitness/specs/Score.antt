@@ -1,6 +1,6 @@
 -- Scores: their sums, where a refusal stays a refusal. Definitions alone.
-use Prim.Native.Nat.{ℕ, zero, suc}
-use lib.IntN.{ℤ, pos, negℤ, natAbs, _+ℤ_}
+use Prim.Native.Nat.{ℕ}
+use lib.IntN.{ℤ, negℤ, natAbs, _+ℤ_}
 use Rattle.refusals.specs.Finding.{Finding, found, refused}
 
 infixl 6 _⊞_
@@ -9,11 +9,6 @@ unfoldable pub _⊞_ : Finding ℤ → Finding ℤ → Finding ℤ
 found a ⊞ found b = found (a +ℤ b)
 found a ⊞ refused n = refused n
 refused n ⊞ b = refused n
-
--- the first n of many scores together
-unfoldable pub several : (ℕ → Finding ℤ) → ℕ → Finding ℤ
-several f zero = found (pos 0)
-several f (suc n) = several f n ⊞ f n
 
 -- a score counted against
 unfoldable pub opposite : Finding ℤ → Finding ℤ

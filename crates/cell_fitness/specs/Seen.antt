@@ -1,5 +1,5 @@
 -- How dark a picture shows a cell of a grid, through a perspective. Taken from the Rust, `fitness_cell`. Definitions alone.
-use Prim.Native.Nat.{ℕ, zero, suc}
+use Prim.Native.Nat.{ℕ}
 use mathlib.Core.Bool.{_&&_, cond}
 use mathlib.Core.List.{List}
 use lib.Dec.{eqb, ltb}
@@ -31,12 +31,6 @@ darkIn pic width height (refused n) = refused n
 -- the float nearest to a fraction, which is what a decimal in the source stands for
 abbrev pub ratio : ℕ → ℕ → Float
 ratio n d = float (pos n) ⊘ float (pos d)
-
--- how far into a cell its first, second and third point lie, along either side
-unfoldable pub inset : ℕ → Float
-inset zero = ratio 3 10
-inset (suc zero) = ratio 5 10
-inset (suc (suc k)) = ratio 7 10
 
 module _ (pic : List ℕ) (width height : ℕ) (c : Perspective) where
   -- the grid's point (u, v)

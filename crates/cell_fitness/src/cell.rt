@@ -1,4 +1,4 @@
-// One cell: nine points of it, each at the pixel that the perspective maps it to.
+// One cell: nine points of it, each at the pixel that the perspective maps it to. Where all nine lie is worked out before the first pixel is looked at, so that a compiler divides in pairs.
 ghost use mathlib.Core.Path.{_≡_};
 ghost use mathlib.Core.Bool.{true, false};
 ghost use lib.IntN.{pos, negsuc};
@@ -8,12 +8,26 @@ ghost use lib.ListN.{length};
 ghost use Rattle.rounding.specs.Nearest.{nearestOf};
 ghost use Rattle.geometry.specs.Map.{mapDen, mapX, mapY};
 ghost use Rattle.picture.specs.Sides.{Sized};
-ghost use Rattle.cell_fitness.specs.Seen.{inset, pointOf, lineOf, cellOf};
+ghost use Rattle.cell_fitness.specs.Seen.{cellOf};
 ghost use Rattle.cell_fitness.specs.Along.{along, besideAt, seenAt};
+ghost use Rattle.cell_fitness.specs.Landed.{landed, landedLine, pointAt, lineAt};
 ghost use Rattle.cell_fitness.specs.Scores.{Scores};
 use crate::Fitness;
 use geometry::Perspective;
 use rounding::Whole;
+
+// Where a point lies in the picture, before its coordinates are rounded.
+struct Landing {
+    right: f64,
+    below: f64,
+}
+
+// Where the three points of a cell lie that are at one height.
+struct Landings {
+    first: Landing,
+    second: Landing,
+    third: Landing,
+}
 
 // A coordinate that is not below 0, as a place along a side.
 fn from_zero(i: i32) -> usize
@@ -111,41 +125,50 @@ fn down(c: Perspective, u: f64, v: f64) -> f64
     (c.c3 * u + c.c4 * v + c.c5) / den
 }
 
-// The grid's point (u, v).
-fn fitness_point(pic: &[u8], width: usize, height: usize, c: Perspective, u: f64, v: f64) -> Fitness
-    requires { ⌜ Sized width height (length (now pic)) ⌝ }
-    ensures { λ r. ⌜ Scores (pointOf (now (pic .entry)) width height c u v) 1 r ⌝ }
+// Where the grid's point (u, v) lies.
+fn land(c: Perspective, u: f64, v: f64) -> Landing
+    ensures { λ r. ⌜ r ≡ landed c u v ⌝ }
 {
-    let x = along(across(c, u, v));
-    let y = along(down(c, u, v));
+    let right = across(c, u, v);
+    let below = down(c, u, v);
+    Landing {
+        right: right,
+        below: below,
+    }
+}
+
+// Where the three points of a cell that starts at x lie, at the height v.
+fn land_line(c: Perspective, x: f64, v: f64) -> Landings
+    ensures { λ r. ⌜ r ≡ landedLine c x v ⌝ }
+{
+    let first = land(c, x + 0.3, v);
+    let second = land(c, x + 0.5, v);
+    let third = land(c, x + 0.7, v);
+    Landings {
+        first: first,
+        second: second,
+        third: third,
+    }
+}
+
+// A point that lies there.
+fn fitness_point(pic: &[u8], width: usize, height: usize, at: Landing) -> Fitness
+    requires { ⌜ Sized width height (length (now pic)) ⌝ }
+    ensures { λ r. ⌜ Scores (pointAt (now (pic .entry)) width height at) 1 r ⌝ }
+{
+    let x = along(at.right);
+    let y = along(at.below);
     dark_at(pic, width, height, x, y)
 }
 
-// How far into a cell its k-th point lies, along either side.
-fn inset(k: usize) -> f64
-    ensures { λ r. ⌜ r ≡ inset k ⌝ }
-{
-    if k == 0 {
-        return 0.3;
-    }
-    if k == 1 {
-        return 0.5;
-    }
-    0.7
-}
-
-// Three points of a cell that starts at x, at the height v. The loops here and below have one call each, so that a compiler writes a whole cell in one piece.
-fn fitness_line(pic: &[u8], width: usize, height: usize, c: Perspective, x: f64, v: f64) -> Fitness
+// Three points that lie there.
+fn fitness_line(pic: &[u8], width: usize, height: usize, at: Landings) -> Fitness
     requires { ⌜ Sized width height (length (now pic)) ⌝ }
-    ensures { λ r. ⌜ Scores (lineOf (now (pic .entry)) width height c x v) 3 r ⌝ }
+    ensures { λ r. ⌜ Scores (lineAt (now (pic .entry)) width height at) 3 r ⌝ }
 {
-    let mut score = Fitness::Score(0);
-    let mut k: usize = 0;
-    while k < 3 {
-        score = score.plus(fitness_point(pic, width, height, c, x + inset(k), v));
-        k += 1;
-    }
-    score
+    let one = fitness_point(pic, width, height, at.first);
+    let two = one.plus(fitness_point(pic, width, height, at.second));
+    two.plus(fitness_point(pic, width, height, at.third))
 }
 
 // The cell in column x of line y: how many of its nine points are dark, less those that are white.
@@ -162,11 +185,10 @@ pub fn fitness_cell(
 {
     let left = x as f64;
     let top = y as f64;
-    let mut score = Fitness::Score(0);
-    let mut k: usize = 0;
-    while k < 3 {
-        score = score.plus(fitness_line(pic, width, height, c, left, top + inset(k)));
-        k += 1;
-    }
-    score
+    let first = land_line(c, left, top + 0.3);
+    let second = land_line(c, left, top + 0.5);
+    let third = land_line(c, left, top + 0.7);
+    let one = fitness_line(pic, width, height, first);
+    let two = one.plus(fitness_line(pic, width, height, second));
+    two.plus(fitness_line(pic, width, height, third))
 }
