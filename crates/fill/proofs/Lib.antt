@@ -2,6 +2,7 @@ pub mod Painted
 pub mod Ends
 pub mod RowAt
 pub mod Scan
+pub mod Stretches
 pub mod Lines
 pub mod Underway
 pub mod Turns

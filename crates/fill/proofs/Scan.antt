@@ -38,14 +38,14 @@ module _ (p : List ℕ) (w f y : ℕ) where
       not-here : (x : ℕ) → (getD p (base + x) 0 ≡ f → ⊥) → px p w x y ≡ f → ⊥
       not-here x h g = h (ap (λ (b : ℕ). getD p (b + x) 0) at ∙ g)
 
-      pub seeds-off-at : (x z n m : ℕ) (on : Bool) (st : List A) → z ≡ suc x → n ≡ suc m → (getD p (base + x) 0 ≡ f → ⊥) → seeds mk p w f y x n on st ≡ seeds mk p w f y z m false st
-      seeds-off-at x z n m on st e e′ h = rw (e, e′) (seeds-off x m on st (not-here x h))
+      pub seeds-off-at : (x n : ℕ) (on : Bool) (st : List A) → (getD p (base + x) 0 ≡ f → ⊥) → seeds mk p w f y x (suc n) on st ≡ seeds mk p w f y (suc x) n false st
+      seeds-off-at x n on st h = seeds-off x n on st (not-here x h)
 
-      pub seeds-on-at : (x z n m : ℕ) (on : Bool) (st : List A) → on ≡ true → z ≡ suc x → n ≡ suc m → getD p (base + x) 0 ≡ f → seeds mk p w f y x n on st ≡ seeds mk p w f y z m on st
-      seeds-on-at x z n m on st t e e′ h = rw (t, e, e′) (seeds-on x m st (here x h))
+      pub seeds-on-at : (x n : ℕ) (st : List A) → getD p (base + x) 0 ≡ f → seeds mk p w f y x (suc n) true st ≡ seeds mk p w f y (suc x) n true st
+      seeds-on-at x n st h = seeds-on x n st (here x h)
 
-      pub seeds-new-at : (x z n m : ℕ) (on : Bool) (st st′ : List A) → on ≡ false → st′ ≡ mk x ∷ st → z ≡ suc x → n ≡ suc m → getD p (base + x) 0 ≡ f → seeds mk p w f y x n on st ≡ seeds mk p w f y z m true st′
-      seeds-new-at x z n m on st st′ t q e e′ h = rw (t, e, e′, q) (seeds-new x m st (here x h))
+      pub seeds-new-at : (x z n m : ℕ) (st st′ : List A) → st′ ≡ mk x ∷ st → z ≡ suc x → n ≡ suc m → getD p (base + x) 0 ≡ f → seeds mk p w f y x n false st ≡ seeds mk p w f y z m true st′
+      seeds-new-at x z n m st st′ q e e′ h = rw (e, e′, q) (seeds-new x m st (here x h))
 
       -- a scan of one column
       pub seeds-none : (x : ℕ) (st : List A) → (getD p (base + x) 0 ≡ f → ⊥) → seeds mk p w f y x 1 false st ≡ st

@@ -1,11 +1,12 @@
 // The entries that a row pushes for the lines above and below it.
 ghost use mathlib.Core.Path.{_≡_};
 ghost use mathlib.Core.Bool.{false};
-ghost use Prim.Native.Nat.{_+_, _*_, _<_, _≤_};
+ghost use Prim.Native.Nat.{_+_, _*_, _-_, _<_, _≤_};
 ghost use lib.ListN.{length};
 ghost use Rattle.pieces.specs.Picture.{pixel};
 ghost use Rattle.fill.specs.Order.{seeds, above, below};
 ghost use Rattle.fill.specs.Stack.{widest, held};
+ghost use Rattle.fill.specs.Stretch.{pastOthers, pastRun};
 ghost use Rattle.fill.specs.Fill.{Sized};
 
 // Pushes an entry for the column x, where it shows `from`.
@@ -30,6 +31,36 @@ fn seed_pixel(
     sp + 1
 }
 
+// The first column from x on, before `end`, that shows `from`, on the line that starts at base; `end` where there is none.
+fn past_others(pic: &[u8], base: usize, x: usize, end: usize, from: u8) -> usize
+    requires { do ⌜ (x ≤ end) × (base + end ≤ (← ⟦pic.len()⟧)) ⌝ }
+    ensures { λ r. ⌜ r ≡ pastOthers (now (pic .entry)) base from x (end - x) ⌝ }
+{
+    let mut k = x;
+    while k < end {
+        if pic[base + k] == from {
+            return k;
+        }
+        k += 1;
+    }
+    k
+}
+
+// The first that shows another byte.
+fn past_run(pic: &[u8], base: usize, x: usize, end: usize, from: u8) -> usize
+    requires { do ⌜ (x ≤ end) × (base + end ≤ (← ⟦pic.len()⟧)) ⌝ }
+    ensures { λ r. ⌜ r ≡ pastRun (now (pic .entry)) base from x (end - x) ⌝ }
+{
+    let mut k = x;
+    while k < end {
+        if pic[base + k] != from {
+            return k;
+        }
+        k += 1;
+    }
+    k
+}
+
 // Pushes an entry for each of n columns from left on at which bytes `from` begin, on the line y, which starts at base. Answers the stack's new size.
 pub fn seed_line(
     pic: &[u8],
@@ -49,19 +80,14 @@ pub fn seed_line(
     if n == 1 {
         return seed_pixel(pic, w, y, base, left, from, stack, sp);
     }
+    let end = left + n;
     let mut top = sp;
-    let mut on = false;
-    let mut k = 0;
-    while k < n {
-        let x = left + k;
-        k += 1;
-        if pic[base + x] != from {
-            on = false;
-        } else if !on {
-            stack[top] = (y * 1024 + x) as u32;
-            top += 1;
-            on = true;
-        }
+    let mut x = past_others(pic, base, left, end, from);
+    while x < end {
+        stack[top] = (y * 1024 + x) as u32;
+        top += 1;
+        let past = past_run(pic, base, x + 1, end, from);
+        x = past_others(pic, base, past, end, from);
     }
     top
 }

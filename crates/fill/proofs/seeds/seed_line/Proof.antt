@@ -1,45 +1,47 @@
--- `seed_line` scans a line as the rule does, a single column at once: what is left of the scan, from where it stands, gives what the whole gives. Assumes nothing.
+-- `seed_line` scans a line as the rule does, a single column at once and any other by stretches: what is left of the scan, from where it stands, gives what the whole gives. Assumes nothing.
 use Prim.Native.Nat.{ℕ, _≤_, _<_, _+_, _-_}
 use native.Mathlib.Omega.{arith}
-use native.Mathlib.Nat.{add-zero, sub-zero}
-use mathlib.Core.Path.{_≡_, refl, ap, _∙_}
-use mathlib.Core.List.{List, _∷_}
-use mathlib.Core.Bool.{true, false}
+use mathlib.Core.Path.{_≡_, refl, ap, _∙_, subst}
+use mathlib.Core.Bool.{false}
 use lib.ListN.{length, length-set}
 use borrow.Author.Needs.{needs}
-use borrow.Author.Tests.{not-true, not-false}
-use Rattle.pieces.specs.Picture.{Pixel, pixel}
+use Rattle.pieces.specs.Picture.{pixel}
 use Rattle.fill.specs.Order.{seeds}
 use Rattle.fill.specs.Stack.{held}
-use Rattle.fill.proofs.Scan.{seeds-off-at, seeds-on-at, seeds-new-at, seeds-end, seeds-grow}
+use Rattle.fill.specs.Stretch.{pastOthers}
+use Rattle.fill.proofs.Scan.{seeds-end}
+use Rattle.fill.proofs.Stretches.{Onset, onset, run-within, seeds-others, seeds-more, seeds-turn}
 use Rattle.fill.proofs.Entries.{held-length, held-push}
 use Rattle.fill.proofs.seeds.seed_line.Statement.{statement}
 use Rattle.fill.proofs.seeds.seed_line.Tie as tie
 
 abbrev Inv-loop : tie.InvT-loop
-Inv-loop pic w y base left n from stack₀ sp top₀ on₀ k₀ stack top on k =
-    (seeds (λ e. pixel e y) pic w from y left n false (held stack₀ sp) ≡ seeds (λ e. pixel e y) pic w from y (left + k) (n - k) on (held stack top)) × (k ≤ n) × (length stack ≡ length stack₀)
+Inv-loop pic w y base left n from stack₀ sp end top₀ x₀ stack top x =
+    (seeds (λ e. pixel e y) pic w from y left n false (held stack₀ sp) ≡ seeds (λ e. pixel e y) pic w from y x (end - x) false (held stack top)) × Onset pic base from left end x × (length stack ≡ length stack₀)
 
 abbrev μ-loop : tie.MeasureT-loop
-μ-loop pic w y base left n from stack₀ sp top₀ on₀ k₀ stack top on k = n - k
+μ-loop pic w y base left n from stack₀ sp end top₀ x₀ stack top x = end - x
 
--- where bytes begin: what the stack st with the new entry leaves to scan, and that there is room for it
-begins : (c : tie.Then3 Inv-loop μ-loop) (st : List Pixel)
-    → let s = c .before .before .before .before .before .before .before .before .args in
-    let l = c .before .before .before .before .loop in
-    st ≡ pixel (s .left + l .k) (s .y) ∷ held (l .stack) (l .top)
-    → seeds (λ e. pixel e (s .y)) (s .pic .now) (s .w) (s .from) (s .y) (s .left + l .k) (s .n - l .k) (l .on) (held (l .stack) (l .top))
-    ≡ seeds (λ e. pixel e (s .y)) (s .pic .now) (s .w) (s .from) (s .y) (s .left + (l .k + 1)) (s .n - (l .k + 1)) true st
-begins c st q = seeds-new-at _ _ _ _ _ _ (c .before .before .before .before .before .before .before .before .pre .0 .0) _ _ _ _ _ _ _ (not-true _ (c .if3 .taken)) q (omega arith) (omega arith) (c .before .if2 .left)
-
-room : (c : tie.Then3 Inv-loop μ-loop) → c .before .before .before .before .loop .top < length (c .before .before .before .before .loop .stack)
+-- where bytes begin there is room for an entry
+room : (c : tie.In-loop Inv-loop μ-loop) → c .before .loop .top < length (c .before .loop .stack)
 room c =
-    let s = c .before .before .before .before .before .before .before .before in
-    let l = c .before .before .before .before .loop in
+    let s = c .before .before .before .before .before .before in
+    let l = c .before .loop in
     let a = s .args in
-    let st = pixel (a .left + l .k) (a .y) ∷ held (l .stack) (l .top) in
-    let grow = seeds-grow (a .pic .now) (a .w) (a .from) (a .y) (λ e. pixel e (a .y)) (a .left + (l .k + 1)) (a .n - (l .k + 1)) true st in
-    omega (arith, ap length (begins c st refl), ap length (l .inv .0), s .pre .1, held-length (l .stack) (l .top), l .inv .2)
+    let t = c .loop-test .taken in
+    let more = seeds-more (a .pic .now) (a .base) (a .from) (a .w) (a .y) (s .pre .0 .0) (λ e. pixel e (a .y)) (l .x) (a .left + a .n) (held (l .stack) (l .top)) t (l .inv .1 .shown t) in
+    omega (arith, more, ap length (l .inv .0), s .pre .1, held-length (l .stack) (l .top), l .inv .2)
+
+-- where the run that begins there ends, and where the next one begins
+ends : (c : tie.After-past-run Inv-loop μ-loop)
+    → let a = c .before .before .before .before .before .before .before .args in
+    (c .before .before .loop .x + 1 ≤ c .past-run .result) × (c .past-run .result ≤ a .left + a .n)
+ends c = run-within _ _ _ _ _ _ _ (omega arith) (c .past-run .ensures)
+
+next : (c : tie.After-past-others2 Inv-loop μ-loop)
+    → let a = c .before .before .before .before .before .before .before .before .args in
+    Onset (a .pic .now) (a .base) (a .from) (c .before .past-run .result) (a .left + a .n) (c .past-others2 .result)
+next c = onset _ _ _ _ _ _ _ (omega (arith, ends (c .before))) (c .past-others2 .ensures)
 
 seed-pixel-requires : tie.Need-seed-pixel-requires Inv-loop μ-loop
 seed-pixel-requires c κs =
@@ -54,28 +56,19 @@ same-length c = search needs
 returns : tie.Need-returns Inv-loop μ-loop
 returns c = rw (c .before .before .before .before .if1 .taken) (c .before .before .seed-pixel .ensures)
 
+add-end : tie.Need-add-end Inv-loop μ-loop
+add-end c = omega arith
+
+past-others-requires : tie.Need-past-others-requires Inv-loop μ-loop
+past-others-requires c κs = (omega arith, omega arith)
+
 loop-holds : tie.Need-loop-holds Inv-loop μ-loop
-loop-holds c = (simp (add-zero, sub-zero), omega arith, refl)
-
-add-x : tie.Need-add-x Inv-loop μ-loop
-add-x c = omega arith
-
-add-k : tie.Need-add-k Inv-loop μ-loop
-add-k c = omega arith
-
-add-if2 : tie.Need-add-if2 Inv-loop μ-loop
-add-if2 c = omega arith
-
-shared-slice-read-if2 : tie.Need-shared-slice-read-if2 Inv-loop μ-loop
-shared-slice-read-if2 c = omega arith
-
-loop-less : tie.Need-loop-less Inv-loop μ-loop
-loop-less c = omega arith
-
-loop-again : tie.Need-loop-again Inv-loop μ-loop
-loop-again c =
-    let l = c .before .before .before .loop in
-    (l .inv .0 ∙ seeds-off-at _ _ _ _ _ _ (c .before .before .before .before .before .before .before .pre .0 .0) _ _ _ _ _ _ (omega arith) (omega arith) (c .if2 .taken), omega arith, omega arith)
+loop-holds c =
+    let s = c .before .before .before .before in
+    let a = s .args in
+    let d : a .left + a .n - a .left ≡ a .n = omega arith in
+    let e = subst (λ (m : ℕ). c .past-others .result ≡ pastOthers (a .pic .now) (a .base) (a .from) (a .left) m) d (c .past-others .ensures) in
+    (seeds-others _ _ _ _ _ (s .pre .0 .0) _ _ _ _ _ _ refl e, onset _ _ _ _ _ _ _ refl e, refl)
 
 mul-stack : tie.Need-mul-stack Inv-loop μ-loop
 mul-stack c = omega arith
@@ -87,39 +80,44 @@ cast-stack : tie.Need-cast-stack Inv-loop μ-loop
 cast-stack c = omega arith
 
 mul-stack-2 : tie.Need-mul-stack-2 Inv-loop μ-loop
-mul-stack-2 c = omega (arith, room c, c .before .before .before .before .before .before .before .before .good, c .before .before .before .before .loop .inv .2)
+mul-stack-2 c = omega (arith, room c, c .before .before .before .before .before .before .good, c .before .loop .inv .2)
 
 slice-write-stack : tie.Need-slice-write-stack Inv-loop μ-loop
 slice-write-stack c = room c
 
 add-top : tie.Need-add-top Inv-loop μ-loop
-add-top c = omega (arith, room c, c .before .before .before .before .before .before .before .before .good, c .before .before .before .before .loop .inv .2)
+add-top c = omega (arith, room c, c .before .before .before .before .before .before .good, c .before .loop .inv .2)
 
-loop-less-2 : tie.Need-loop-less-2 Inv-loop μ-loop
-loop-less-2 c = omega arith
+add-past-run : tie.Need-add-past-run Inv-loop μ-loop
+add-past-run c = omega arith
 
-loop-again-2 : tie.Need-loop-again-2 Inv-loop μ-loop
-loop-again-2 c =
-    let l = c .before .before .before .before .loop in
-    let e = begins c _ (held-push (l .stack) (l .top) _ _ (l .top + 1) (room c) (omega arith) (omega arith)) in
-    (l .inv .0 ∙ e, omega arith, simp length-set (l .inv .2))
+past-run-requires : tie.Need-past-run-requires Inv-loop μ-loop
+past-run-requires c κs = (omega arith, omega arith)
 
-loop-less-3 : tie.Need-loop-less-3 Inv-loop μ-loop
-loop-less-3 c = omega arith
+past-others-requires-2 : tie.Need-past-others-requires-2 Inv-loop μ-loop
+past-others-requires-2 c κs = (ends c .1, omega arith)
 
-loop-again-3 : tie.Need-loop-again-3 Inv-loop μ-loop
-loop-again-3 c =
-    let l = c .before .before .before .before .loop in
-    let at-base = c .before .before .before .before .before .before .before .before .pre .0 .0 in
-    (l .inv .0 ∙ seeds-on-at _ _ _ _ _ _ at-base _ _ _ _ _ _ (not-false _ (c .if3 .left)) (omega arith) (omega arith) (c .before .if2 .left), omega arith, omega arith)
+loop-less : tie.Need-loop-less Inv-loop μ-loop
+loop-less c = omega (arith, ends (c .before), next c .low)
+
+loop-again : tie.Need-loop-again Inv-loop μ-loop
+loop-again c =
+    let l = c .before .before .before .loop in
+    let t = c .before .before .loop-test .taken in
+    let s = c .before .before .before .before .before .before .before .before in
+    let push = held-push (l .stack) (l .top) (l .x) (s .args .y) (l .top + 1) (room (c .before .before)) (omega arith) (omega arith) in
+    let turn = seeds-turn _ _ _ _ _ (s .pre .0 .0) _ _ _ _ _ _ _ t (l .inv .1 .shown t) push (c .before .past-run .ensures) (c .past-others2 .ensures) in
+    let o = next c in
+    (l .inv .0 ∙ turn, record { low = omega (arith, ends (c .before), o .low); high = o .high; shown = o .shown }, simp length-set (l .inv .2))
 
 same-length-2 : tie.Need-same-length-2 Inv-loop μ-loop
 same-length-2 c = omega arith
 
 returns-2 : tie.Need-returns-2 Inv-loop μ-loop
 returns-2 c =
+    let a = c .before .before .before .before .before .before .args in
     let l = c .before .loop in
-    let z : c .before .before .before .before .before .args .n - l .k ≡ 0 = omega arith in
+    let z : a .left + a .n - l .x ≡ 0 = omega arith in
     rw (l .inv .0, z, seeds-end)
 
 pub seed-line-spec : {M : Type 1} → statement M
@@ -131,22 +129,19 @@ seed-line-spec =
     seed-pixel-requires
     same-length
     returns
+    add-end
+    past-others-requires
     loop-holds
-    add-x
-    add-k
-    add-if2
-    shared-slice-read-if2
-    loop-less
-    loop-again
     mul-stack
     add-stack
     cast-stack
     mul-stack-2
     slice-write-stack
     add-top
-    loop-less-2
-    loop-again-2
-    loop-less-3
-    loop-again-3
+    add-past-run
+    past-run-requires
+    past-others-requires-2
+    loop-less
+    loop-again
     same-length-2
     returns-2)
