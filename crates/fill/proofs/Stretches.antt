@@ -38,13 +38,13 @@ module _ (p : List ℕ) (base f : ℕ) where
   unfolding pastRun
   run-on x z n m e e′ h = rw (e, e′, pastRun, eq-eqb (getD p (base + x) 0) f h)
 
-  -- from x on, before e, bytes f come first at r, or not at all
+  -- r is a column from x on that shows f, or the end e
   pub record Onset (x e r : ℕ) : Type 0 where
     pub low : x ≤ r
     pub high : r ≤ e
     pub shown : r < e → getD p (base + r) 0 ≡ f
 
-  -- and the column that `pastOthers` answers is that one
+  -- `pastOthers` answers such a column
   pub onset : (n x e r : ℕ) → e ≡ x + n → r ≡ pastOthers p base f x n → Onset x e r
   onset zero x e r q g = let z : r ≡ x = g ∙ others-none x 0 refl in record { low = omega arith; high = omega arith; shown = λ l. absurd (omega arith) }
   onset (suc n) x e r q g =
@@ -57,7 +57,7 @@ module _ (p : List ℕ) (base f : ℕ) where
       record { low = omega (arith, o .low); high = o .high; shown = o .shown })
       (same (getD p (base + x) 0) f)
 
-  -- a run ends before e, or there
+  -- `pastRun` answers a column from x on, e at most
   pub run-within : (n x e r : ℕ) → e ≡ x + n → r ≡ pastRun p base f x n → (x ≤ r) × (r ≤ e)
   run-within zero x e r q g = let z : r ≡ x = g ∙ run-none x 0 refl in (omega arith, omega arith)
   run-within (suc n) x e r q g =

@@ -95,7 +95,7 @@ past-run-requires : tie.Need-past-run-requires Inv-loop μ-loop
 past-run-requires c κs = (omega arith, omega arith)
 
 past-others-requires-2 : tie.Need-past-others-requires-2 Inv-loop μ-loop
-past-others-requires-2 c κs = (ends c .1, omega arith)
+past-others-requires-2 c κs = (omega (arith, ends c), omega arith)
 
 loop-less : tie.Need-loop-less Inv-loop μ-loop
 loop-less c = omega (arith, ends (c .before), next c .low)
