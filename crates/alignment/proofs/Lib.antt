@@ -2,6 +2,8 @@ pub mod Places
 pub mod Coming
 pub mod Passes
 pub mod Kept
+pub mod Passing
+pub mod Gliding
 pub mod Visiting
 pub mod Spiralling
 pub mod Sighted

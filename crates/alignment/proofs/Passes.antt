@@ -12,7 +12,7 @@ use borrow.Author.Tests.{eq-eqb, ne-eqb, lt-ltb, le-ltb}
 use Rattle.points.specs.Range.{Near}
 use Rattle.points.specs.declared.Point.{Point}
 use Rattle.sizes.proofs.Size.{size-add}
-use Rattle.alignment.specs.Spiral.{firstPass, turnedTo, nextPass, wayX, wayY, moved, Turning}
+use Rattle.alignment.specs.Spiral.{firstPass, turnedTo, nextPass, wayX, wayY, moved, Turning, legsLeft, passesLeft, Reachable}
 use Rattle.alignment.specs.declared.spiral.Pass.{Pass}
 
 one-most : (s t : Bool) (a b : ℤ) → natAbs a ≤ 1 → natAbs b ≤ 1 → natAbs (cond s a (cond t b (pos 0))) ≤ 1
@@ -27,14 +27,6 @@ way-x-one dir = one-most (eqb dir 0) (eqb dir 2) (pos 1) (negsuc 0) (omega arith
 pub way-y-one : (dir : ℕ) → natAbs (wayY dir) ≤ 1
 unfolding wayY
 way-y-one dir = one-most (eqb dir 1) (eqb dir 3) (negsuc 0) (pos 1) (omega arith) (omega arith)
-
--- no leg is longer than 1001 passes, and only so many legs are left
-pub legsLeft : Pass → ℕ
-legsLeft s = (1001 - s .step) * 2 + (1 - s .dir % 2)
-
--- at least as many as the passes that are left
-pub passesLeft : Pass → ℕ
-passesLeft s = legsLeft s * 1001 + s .left
 
 -- t is a pass as the spiral comes to it, with fewer left than after s
 pub record After (s t : Pass) : Type 0 where
@@ -70,11 +62,6 @@ step-few step estimate l few = by-cases (decLt step 1000) (λ h. omega arith) (�
 
 pub first-turning : Turning firstPass
 first-turning = record { dir-low = omega arith; some = omega arith; left-low = omega arith; step-low = omega arith }
-
--- a place is as near as the passes still to be made allow
-pub record Reachable (s : Pass) (at : Point) : Type 0 where
-  pub x-low : natAbs (at .x) + passesLeft s ≤ 3000000
-  pub y-low : natAbs (at .y) + passesLeft s ≤ 3000000
 
 pub first-near : {seed : Point} → Near seed → Reachable firstPass seed
 unfolding passesLeft legsLeft

@@ -8,17 +8,18 @@ use Rattle.refusals.specs.Limits.{farthest}
 use Rattle.refusals.specs.Finding.{Finding, found, refusedBy}
 use Rattle.refusals.specs.declared.Refusal.{Refusal}
 use Rattle.picture.specs.Sides.{Roomy}
-use Rattle.points.specs.Range.{Near}
 use Rattle.points.specs.declared.Point.{Point}
 use Rattle.table.specs.declared.Table.{Table}
 use Rattle.table.proofs.Kept.{Proper}
-use Rattle.alignment.specs.Spiral.{firstPass, nextPass, moved, Turning}
+use Rattle.alignment.specs.Spiral.{nextPass, moved, Turning, passesLeft, Reachable}
 use Rattle.alignment.specs.Visit.{Visits}
+use Rattle.alignment.specs.Glide.{passedOf, Glides}
 use Rattle.alignment.specs.Search.{Spirals, too-far, moves, stays, here, stops}
 use Rattle.alignment.specs.declared.spiral.Pass.{Pass}
 use Rattle.alignment.specs.declared.visit.Visit.{Visit}
 use Rattle.alignment.specs.declared.visit.Visit.the-variants.{Moves, Stays, Here, Refused}
-use Rattle.alignment.proofs.Passes.{After, passesLeft, next-after, step-few, first-turning, Reachable, first-near, still-near, moved-near}
+use Rattle.alignment.proofs.Passes.{After, next-after, step-few, still-near, moved-near}
+use Rattle.alignment.proofs.Gliding.{glide-spirals, Reached, glide-reaches}
 use Rattle.alignment.proofs.Kept.{Kept, kept-on, kept-still}
 use Rattle.alignment.proofs.Visiting.{visit-keeps}
 
@@ -27,30 +28,40 @@ pub still-roomy : {w h m n lent room : ℕ} → Roomy w h n lent → m ≡ n →
 still-roomy {w} {h} {room = room} R e more = rw e (record { sized = R .sized; room = omega (arith, R .room) })
 
 -- on the way: what a search from here comes to is what the whole search comes to
-module _ (p0 : List ℕ) (w h estimate : ℕ) (seed : Point) (T0 : Table) where
+module _ (p0 : List ℕ) (w h estimate : ℕ) (first : Pass) (from : Point) (T0 : Table) where
   pub record Along (p : List ℕ) (lent : ℕ) (s : Pass) (at : Point) (T : Table) : Type 0 where
     pub few : estimate ≤ farthest
     pub roomy : Roomy w h (length p) lent
     pub kept : Kept p0 w h p T
     pub turning : Turning s
     pub near : Reachable s at
-    pub then : (f : Finding (List Point)) (q : List ℕ) (U : Table) → Spirals w h estimate s at p T f q U → Spirals w h estimate firstPass seed p0 T0 f q U
+    pub then : (f : Finding (List Point)) (q : List ℕ) (U : Table) → Spirals w h estimate s at p T f q U → Spirals w h estimate first from p0 T0 f q U
 
-module _ {p0 : List ℕ} {w h estimate : ℕ} {seed : Point} {T0 : Table} where
-  pub along-begun : {lent : ℕ} {s : Pass} → estimate ≤ farthest → Roomy w h (length p0) lent → Proper T0 w h → Near seed → s ≡ firstPass → Along p0 w h estimate seed T0 p0 lent s seed T0
-  along-begun few R P N e =
-      rw e (record {
-        few = few;
-        roomy = R;
-        kept = kept-still P refl refl;
-        turning = first-turning;
-        near = first-near N;
-        then = λ f q U S. S;
-      })
+module _ {p0 : List ℕ} {w h estimate : ℕ} {first : Pass} {from : Point} {T0 : Table} where
+  pub along-begun : {lent : ℕ} → estimate ≤ farthest → Roomy w h (length p0) lent → Proper T0 w h → Turning first → Reachable first from → Along p0 w h estimate first from T0 p0 lent first from T0
+  along-begun few R P S N = record { few = few; roomy = R; kept = kept-still P refl refl; turning = S; near = N; then = λ f q U X. X }
 
-  module _ {p : List ℕ} {lent : ℕ} {s : Pass} {at : Point} {T : Table} (A : Along p0 w h estimate seed T0 p lent s at T) where
-    pub along-far : estimate * 100 ≤ s .step * s .step → Spirals w h estimate firstPass seed p0 T0 (found []) p T
+  module _ {p : List ℕ} {lent : ℕ} {s : Pass} {at : Point} {T : Table} (A : Along p0 w h estimate first from T0 p lent s at T) where
+    pub along-far : estimate * 100 ≤ s .step * s .step → Spirals w h estimate first from p0 T0 (found []) p T
     along-far far = A .then _ _ _ (too-far far)
+
+    module _ {passed : ℕ} (is : passed ≡ passedOf estimate T) {t : Pass} {to : Point} (G : Glides p w h estimate passed s at t to) where
+      reached : Reached s t to
+      reached = glide-reaches (A .few) (A .turning) (A .near) G
+
+      pub along-fewer : passesLeft t ≤ passesLeft s
+      along-fewer = reached .less
+
+      pub along-glides : Along p0 w h estimate first from T0 p lent t to T
+      along-glides =
+          record {
+            few = A .few;
+            roomy = A .roomy;
+            kept = A .kept;
+            turning = reached .turning;
+            near = reached .near;
+            then = λ f q U S. A .then f q U (glide-spirals (omega (arith, A .kept .proper .age)) (A .kept .proper .sound .ordered) (subst (λ (k : ℕ). Glides p w h estimate k s at t to) is G) S);
+          }
 
     module _ (low : s .step * s .step < estimate * 100) where
       after : After s (nextPass s)
@@ -63,17 +74,17 @@ module _ {p0 : List ℕ} {w h estimate : ℕ} {seed : Point} {T0 : Table} where
         comes-to : {u : Visit} → v ≡ u → Visits p w h T estimate at u q U
         comes-to e = subst (λ (u : Visit). Visits p w h T estimate at u q U) e X
 
-        pub along-here : v ≡ Here → Spirals w h estimate firstPass seed p0 T0 (found (at ∷ [])) q U
+        pub along-here : v ≡ Here → Spirals w h estimate first from p0 T0 (found (at ∷ [])) q U
         along-here e = A .then _ _ _ (here low (comes-to e))
 
-        pub along-stops : (why : Refusal) → v ≡ Refused why → Spirals w h estimate firstPass seed p0 T0 (refusedBy why) q U
+        pub along-stops : (why : Refusal) → v ≡ Refused why → Spirals w h estimate first from p0 T0 (refusedBy why) q U
         along-stops why e = A .then _ _ _ (stops low (comes-to e))
 
         module _ {room : ℕ} (more : lent ≤ room) where
           keeps : Kept p w h q U
           keeps = visit-keeps (A .roomy) (A .kept .proper) X
 
-          pub along-stays : v ≡ Stays → Along p0 w h estimate seed T0 q room (nextPass s) at U
+          pub along-stays : v ≡ Stays → Along p0 w h estimate first from T0 q room (nextPass s) at U
           along-stays e =
               record {
                 few = A .few;
@@ -84,7 +95,7 @@ module _ {p0 : List ℕ} {w h estimate : ℕ} {seed : Point} {T0 : Table} where
                 then = λ f r Z S. A .then f r Z (stays low (comes-to e) S);
               }
 
-          pub along-moves : v ≡ Moves → Along p0 w h estimate seed T0 q room (nextPass s) (moved s at) U
+          pub along-moves : v ≡ Moves → Along p0 w h estimate first from T0 q room (nextPass s) (moved s at) U
           along-moves e =
               record {
                 few = A .few;

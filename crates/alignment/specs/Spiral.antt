@@ -1,8 +1,8 @@
 -- The passes of the spiral. Taken from the Rust (`find_alignment_pattern`), which tests a leg's length as the leg starts: it stays the same along the leg, so it is stated of each pass. Definitions alone.
-use Prim.Native.Nat.{ℕ, _+_, _-_, _%_, _<_, _≤_}
+use Prim.Native.Nat.{ℕ, _+_, _-_, _*_, _%_, _<_, _≤_}
 use mathlib.Core.Bool.{cond}
 use lib.Dec.{eqb, ltb}
-use lib.IntN.{ℤ, pos, negsuc, _+ℤ_}
+use lib.IntN.{ℤ, pos, negsuc, natAbs, _+ℤ_}
 use Rattle.points.specs.declared.Point.{Point}
 use Rattle.alignment.specs.declared.spiral.Pass.{Pass}
 
@@ -39,3 +39,16 @@ pub record Turning (s : Pass) : Type 0 where
   pub some : 0 < s .left
   pub left-low : s .left ≤ s .step
   pub step-low : s .step ≤ 1000
+
+-- no leg is longer than 1001 passes, and only so many legs are left
+unfoldable pub legsLeft : Pass → ℕ
+legsLeft s = (1001 - s .step) * 2 + (1 - s .dir % 2)
+
+-- at least as many as the passes that are left
+unfoldable pub passesLeft : Pass → ℕ
+passesLeft s = legsLeft s * 1001 + s .left
+
+-- a place is as near as the passes still to be made allow
+pub record Reachable (s : Pass) (at : Point) : Type 0 where
+  pub x-low : natAbs (at .x) + passesLeft s ≤ 3000000
+  pub y-low : natAbs (at .y) + passesLeft s ≤ 3000000

@@ -1,4 +1,7 @@
 // The search for the alignment pattern: the spiral's passes, one after the other.
+use crate::glide::glide;
+use crate::glide::passed_by;
+use crate::spiral::Pass;
 use crate::spiral::first_pass;
 use crate::visit::Visit;
 use crate::visit::visit_place;
@@ -13,7 +16,7 @@ ghost use Rattle.refusals.specs.Limits.{farthest};
 ghost use Rattle.points.specs.Range.{Near};
 ghost use Rattle.picture.specs.Sides.{Roomy};
 ghost use Rattle.table.specs.Sound.{soundTest};
-ghost use Rattle.alignment.specs.Spiral.{firstPass};
+ghost use Rattle.alignment.specs.Spiral.{firstPass, Turning, Reachable};
 ghost use Rattle.alignment.specs.Search.{meaning, Spirals};
 
 // What a search answers: the place of the alignment pattern, that there is none near the seed, or why it refuses.
@@ -29,34 +32,40 @@ pub struct Sought {
     pub table: Table,
 }
 
-// Looks for a region of the estimate's size, in a spiral from the seed on.
-pub fn find_alignment_pattern(
+// Looks for a region of the estimate's size, from a pass and a place on: after each visit it glides to the next.
+fn search_from(
     pic: &mut [u8],
     width: usize,
     height: usize,
     stack: &mut [u32],
     table: Table,
-    seed: Point,
+    first: Pass,
+    from: Point,
     estimate: usize,
 ) -> Sought
-    requires { ⌜ Roomy width height (length (now pic)) (length (now stack)) × (soundTest table width height ≡ true) × Near seed × (estimate ≤ farthest) ⌝ }
-    ensures { λ r. ⌜ Spirals width height estimate firstPass seed (now (pic .entry)) table (meaning (r .place)) (now (pic .exit)) (r .table) ⌝ }
+    requires { ⌜ Roomy width height (length (now pic)) (length (now stack)) × (soundTest table width height ≡ true) × Turning first × Reachable first from × (estimate ≤ farthest) ⌝ }
+    ensures { λ r. ⌜ Spirals width height estimate first from (now (pic .entry)) table (meaning (r .place)) (now (pic .exit)) (r .table) ⌝ }
 {
     let limit = estimate * 100;
-    let mut pass = first_pass();
-    let mut at = seed;
+    let mut pass = first;
+    let mut at = from;
     let mut sofar = table;
     while pass.step * pass.step < limit {
         let visited = visit_place(pic, width, height, stack, sofar, at, estimate);
         let visit = visited.visit;
         sofar = visited.table;
+        let passed = passed_by(sofar, estimate);
         match visit {
             Visit::Moves => {
-                at = pass.moved(at);
-                pass = pass.next();
+                let to = pass.moved(at);
+                let on = glide(pic, width, height, pass.next(), to, estimate, passed);
+                pass = on.pass;
+                at = on.at;
             }
             Visit::Stays => {
-                pass = pass.next();
+                let on = glide(pic, width, height, pass.next(), at, estimate, passed);
+                pass = on.pass;
+                at = on.at;
             }
             Visit::Here => {
                 return Sought {
@@ -76,4 +85,24 @@ pub fn find_alignment_pattern(
         place: Sighting::Nowhere,
         table: sofar,
     }
+}
+
+// Looks for a region of the estimate's size, in a spiral from the seed on.
+pub fn find_alignment_pattern(
+    pic: &mut [u8],
+    width: usize,
+    height: usize,
+    stack: &mut [u32],
+    table: Table,
+    seed: Point,
+    estimate: usize,
+) -> Sought
+    requires { ⌜ Roomy width height (length (now pic)) (length (now stack)) × (soundTest table width height ≡ true) × Near seed × (estimate ≤ farthest) ⌝ }
+    ensures { λ r. ⌜ Spirals width height estimate firstPass seed (now (pic .entry)) table (meaning (r .place)) (now (pic .exit)) (r .table) ⌝ }
+{
+    let passed = passed_by(table, estimate);
+    let start = glide(pic, width, height, first_pass(), seed, estimate, passed);
+    let pass = start.pass;
+    let at = start.at;
+    search_from(pic, width, height, stack, table, pass, at, estimate)
 }

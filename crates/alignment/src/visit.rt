@@ -36,7 +36,7 @@ pub struct Visited {
 }
 
 // Where the coordinates (x, y) lie in a picture of these sides.
-fn place_at(x: i32, y: i32, width: usize, height: usize) -> Place
+pub fn place_at(x: i32, y: i32, width: usize, height: usize) -> Place
     ensures { λ r. ⌜ r ≡ placeAt width height x y ⌝ }
 {
     if x < 0 {
@@ -57,7 +57,7 @@ fn place_at(x: i32, y: i32, width: usize, height: usize) -> Place
 }
 
 // Whether a count of pixels is of the estimate's size.
-fn is_size_like(count: u32, estimate: usize) -> bool
+pub fn is_size_like(count: u32, estimate: usize) -> bool
     requires { ⌜ estimate ≤ farthest ⌝ }
     ensures { λ r. ⌜ r ≡ sizeLike estimate count ⌝ }
 {
