@@ -69,7 +69,7 @@ module _ {p : List ℕ} {w h x y t lent : ℕ} {c : Counts} (F : Fillable p w h 
 
 -- the number that the code gives up is the one that the rule does
 pub used-again : {p : List ℕ} {w h x y : ℕ} {T : Table} {k : ℕ} {m : List ℕ} {e : Entry} {q : List ℕ} {U : Table}
-    → k ≡ givenUp T → px p w x y ≡ 1 → T .n ≡ most → FilledBack p w h (entryOf T k) k m → Measures m w h x y e → Paints m w h x y (5 + k) q → U ≡ replaced T k e
+    → k ≡ givenUp T → px p w x y ≡ 1 → T .n ≡ most → FilledBack p w h (entryOf T k) k m → Measures m w h x y e → Paints m w h x y (5 + k) q → U ≡ replaced T (givenUp T) e
     → Again p w h x y T (unclaimed (region k e)) q U
 used-again {T = T} {m = m} {e = e} is black full back M P t =
     record {
@@ -81,5 +81,5 @@ used-again {T = T} {m = m} {e = e} is black full back M P t =
       measures = M;
       paint = rw is at P;
       answer = ap (λ (j : ℕ). unclaimed (region j e)) is;
-      table = rw is at t;
+      table = t;
     }

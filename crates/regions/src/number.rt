@@ -8,7 +8,7 @@ use table::Table;
 use table::add;
 use table::make_newest;
 use table::oldest;
-use table::replace;
+use table::replace_oldest;
 ghost use mathlib.Core.Path.{_≡_};
 ghost use Prim.Native.Nat.{_+_, _*_, _<_, _≤_};
 ghost use lib.ListN.{length};
@@ -127,7 +127,7 @@ pub fn again(
     let old = table.entries[i];
     fill_back(pic, width, height, stack, old, k);
     let entry = paint_number(pic, width, height, stack, x, y, k);
-    let other = replace(table, k, entry);
+    let other = replace_oldest(table, entry);
     Looked {
         found: ColoredRegion::Unclaimed(Region {
             number: k,

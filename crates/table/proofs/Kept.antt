@@ -7,9 +7,9 @@ use mathlib.Core.Path.{_≡_, refl, sym, ap, _∙_}
 use mathlib.Core.List.{List, [], _∷_, _++_, reverse}
 use mathlib.Core.Logic.{by-cases}
 use lib.ListN.{length, getD, set, take, drop, length-set, length-append, length-drop, length-reverse}
-use lib.Seq.{length-take-le, take-append-seam, take-suc-set, getD-take, getD-set-same, getD-set-other}
+use lib.Seq.{length-take-le, take-append-seam, take-suc, take-suc-set, take-set-le, getD-take, getD-set-same, getD-set-other}
 use borrow.Author.Tests.{eq-eqb, ne-eqb}
-use Rattle.table.specs.Age.{Stands, times, without, turnedRound}
+use Rattle.table.specs.Age.{Stands, FirstAt, times, without, turnedRound}
 use Rattle.table.specs.Table.{most, blank, emptyTable, oldestOf, newest, appended, rewritten, added, replaced, copyOf}
 use Rattle.table.specs.Sound.{OnceEach, Ordered, Inside, Sound}
 use Rattle.table.proofs.Times.{times-append, times-reverse, times-stands, stands-times, times-front}
@@ -43,6 +43,28 @@ module _ (T : Table) (A : length (T .age) ≡ most) (O : Ordered T) where
       let t = stands-times (oldestOf T) (take (T .n) (T .age)) (T .n - 1) (omega (arith, first)) (getD-take (T .n) (T .age) (T .n - 1) 0 h) in
       by-cases (decLt (oldestOf T) (T .n)) (λ l. l) (λ m. absurd (omega (arith, O .order .no-other (oldestOf T) (omega arith))))
 
+  -- the oldest stands at the end of the age order, and at no earlier place
+  pub oldest-first : 0 < T .n → FirstAt (oldestOf T) (T .n - 1) (T .age)
+  unfolding times
+  oldest-first some =
+      let k = oldestOf T in
+      let once : times k (take (T .n) (T .age)) ≡ 1 = O .order .each k (oldest-below some) in
+      let is : T .n ≡ suc (T .n - 1) = omega arith in
+      let inside : T .n - 1 < length (T .age) = omega (arith, O .few, A) in
+      let parts : times k (take (T .n) (T .age)) ≡ times k (take (T .n - 1) (T .age)) + times k (k ∷ []) =
+      ap (λ (j : ℕ). times k (take j (T .age))) is ∙ ap (times k) (take-suc (T .age) (T .n - 1) 0 inside) ∙ times-append k (take (T .n - 1) (T .age)) (k ∷ []) in
+      let last : times k (k ∷ []) ≡ 1 = rw (eq-eqb k k refl) in
+      record { inside = inside; is-k = refl; not-before = omega arith }
+
+  -- the next number, written behind the others, stands at no earlier place
+  pub next-first : T .n < most → FirstAt (T .n) (T .n) (set (T .age) (T .n) (T .n))
+  next-first room =
+      record {
+        inside = omega (arith, length-set (T .age) (T .n) (T .n), A);
+        is-k = getD-set-same (T .age) (T .n) (T .n) 0 (omega (arith, A));
+        not-before = ap (times (T .n)) (take-set-le (T .n) (T .age) (T .n) (T .n) (omega arith)) ∙ O .order .no-other (T .n) (omega arith);
+      }
+
   module _ (k : ℕ) (h : k < T .n) where
     newest-length : length (newest T k .age) ≡ most
     newest-length = let s = number-stands k h in without-length k (T .age) (stands-times k (T .age) (s .0) (s .1) (s .2)) ∙ A
@@ -54,7 +76,7 @@ module _ (T : Table) (A : length (T .age) ≡ most) (O : Ordered T) where
     last-times : (k : ℕ) → times k (take (T .n + 1) (set (T .age) (T .n) (T .n))) ≡ times k (take (T .n) (T .age)) + times k (T .n ∷ [])
     last-times k = rw (add-one, take-suc-set (T .age) (T .n) (T .n) (omega (arith, A)), times-append)
 
-    pub ordered-appended : Ordered (appended T e)
+    ordered-appended : Ordered (appended T e)
     unfolding times
     ordered-appended =
         record {

@@ -1,5 +1,6 @@
 pub mod Places
 pub mod Front
+pub mod Onward
 pub mod Marks
 pub mod Round
 pub mod Seeds

@@ -20,6 +20,12 @@ unfoldable pub times : ℕ → List ℕ → ℕ
 times k [] = 0
 times k (x ∷ l) = cond (eqb x k) (suc (times k l)) (times k l)
 
+-- k stands at place i of l, and at no earlier one
+pub record FirstAt (k i : ℕ) (l : List ℕ) : Type 0 where
+  pub inside : i < length l
+  pub is-k : getD l i 0 ≡ k
+  pub not-before : times k (take i l) ≡ 0
+
 -- l with its first n turned round
 unfoldable pub turnedRound : ℕ → List ℕ → List ℕ
 turnedRound n l = reverse (take n l) ++ drop n l

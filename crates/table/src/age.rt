@@ -2,7 +2,7 @@ ghost use mathlib.Core.Path.{_≡_};
 ghost use mathlib.Core.List.{_∷_};
 ghost use Prim.Native.Nat.{_≤_};
 ghost use lib.ListN.{length, take};
-ghost use Rattle.table.specs.Age.{Stands, without, turnedRound};
+ghost use Rattle.table.specs.Age.{Stands, FirstAt, without, turnedRound};
 ghost use Rattle.table.specs.Sound.{onceEach};
 
 // Brings k to the front of an age order; the others keep their order.
@@ -19,6 +19,19 @@ pub fn to_front(age: &mut [u8], k: u8)
         i += 1;
     }
     age[i] = v;
+}
+
+// Brings k, which stands first at place i, to the front: those before it go one place on.
+pub fn to_front_from(age: &mut [u8], i: usize, k: u8)
+    requires { ⌜ FirstAt k i (now age) ⌝ }
+    ensures { λ _. ⌜ now (age .exit) ≡ k ∷ without k (now (age .entry)) ⌝ }
+{
+    let mut j = i;
+    while 0 < j {
+        age[j] = age[j - 1];
+        j -= 1;
+    }
+    age[0] = k;
 }
 
 // Whether the first n of an age order list 0..n-1, once each.

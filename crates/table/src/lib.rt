@@ -65,20 +65,28 @@ pub fn add(t: Table, e: Entry) -> Table
     let n = u.n;
     let number = n as u8;
     u.entries[n] = e;
-    u.age[n] = number;
+    let mut age = u.age;
+    age[n] = number;
+    age::to_front_from(&mut age, n, number);
+    u.age = age;
     u.n = n + 1;
-    make_newest(u, number)
+    u
 }
 
-// The entry of k gives way to another, which is the newest.
-pub fn replace(t: Table, k: u8, e: Entry) -> Table
-    requires { ⌜ Ordered t × (k < t .n) ⌝ }
-    ensures { λ r. ⌜ r ≡ replaced t k e ⌝ }
+// The oldest entry gives way to another, which is the newest: its number is used again.
+pub fn replace_oldest(t: Table, e: Entry) -> Table
+    requires { ⌜ Ordered t × (0 < t .n) ⌝ }
+    ensures { λ r. ⌜ r ≡ replaced t (oldestOf t) e ⌝ }
 {
     let mut u = t;
+    let last = u.n - 1;
+    let mut age = u.age;
+    let k = age[last];
     let i = k as usize;
     u.entries[i] = e;
-    make_newest(u, k)
+    age::to_front_from(&mut age, last, k);
+    u.age = age;
+    u
 }
 
 // A trial's copy: the entries kept, the age order turned round.

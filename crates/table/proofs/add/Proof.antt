@@ -1,9 +1,8 @@
--- `add` appends the entry and makes it the newest. Assumes nothing.
-use native.Mathlib.Omega.{arith}
+-- `add` writes the next number behind the others, and brings it to the front. Assumes nothing.
 use mathlib.Core.Path.{_≡_}
 use lib.ListN.{length}
 use borrow.Author.Needs.{needs}
-use Rattle.table.proofs.Kept.{ordered-appended}
+use Rattle.table.proofs.Kept.{next-first}
 use Rattle.table.proofs.add.Statement.{statement}
 use Rattle.table.proofs.add.Tie as tie
 
@@ -16,19 +15,23 @@ mul-e c = search needs
 element-set-from-e : tie.Need-element-set-from-e
 element-set-from-e c = search needs
 
-element-write-u : tie.Need-element-write-u
-element-write-u c = search needs
+array-write-age : tie.Need-array-write-age
+array-write-age c = search needs
+
+slice-aggregate-to-front-from : tie.Need-slice-aggregate-to-front-from
+slice-aggregate-to-front-from c = search needs
+
+to-front-from-requires : tie.Need-to-front-from-requires
+to-front-from-requires c κs =
+    let s = c .before .before in
+    let age : length (s .args .t .age) ≡ 251 = search needs in
+    next-first (s .args .t) age (s .pre .0) (s .pre .1)
 
 add-u : tie.Need-add-u
 add-u c = search needs
 
-make-newest-requires : tie.Need-make-newest-requires
-make-newest-requires c κs =
-    let age : length (c .args .t .age) ≡ 251 = search needs in
-    (ordered-appended (c .args .t) age (c .pre .0) (c .args .e) (c .pre .1), omega arith)
-
 returns : tie.Need-returns
-returns c = search needs
+returns c = rw (c .before .to-front-from .ensures)
 
 pub add-spec : {M : Type 1} → statement M
 add-spec =
@@ -37,7 +40,8 @@ add-spec =
     cast-number
     mul-e
     element-set-from-e
-    element-write-u
+    array-write-age
+    slice-aggregate-to-front-from
+    to-front-from-requires
     add-u
-    make-newest-requires
     returns)

@@ -38,12 +38,12 @@ paint-number-requires c κs =
     let room : length (start .args .stack .now) ≤ length (back .last .1 .1 .1 .0) = omega (arith, back .kept .1 .1 .1 .0) in
     (can-number-again (start .pre .0) room (start .pre .1) (back .ensures), omega (arith, test-oldest (start .args .t5) _ _ (start .pre .0 .table) (omega arith)))
 
-replace-requires : tie.Need-replace-requires
-replace-requires c κs =
+replace-oldest-requires : tie.Need-replace-oldest-requires
+replace-oldest-requires c κs =
     let start = c .before .before .before .before .before .before .before .before .before .before .before .before .before .before .before .before .before .before in
     let T = start .args .t5 in
     let whole : length (T .age) ≡ 251 = search needs in
-    (test-ordered T _ _ (start .pre .0 .table) (omega arith), omega (arith, test-oldest T _ _ (start .pre .0 .table) (omega arith)))
+    (test-ordered T _ _ (start .pre .0 .table) (omega arith), omega arith)
 
 same-length : tie.Need-same-length
 same-length c = search needs
@@ -57,7 +57,7 @@ returns c =
     let number = c .before .before .before .before .before .before .before .before .before .before .before .before .before .before .before .before .given-up in
     let back = c .before .before .before .before .before .before .before .before .before .before .before .before .fill-back in
     let painted = c .before .before .before .before .before .paint-number in
-    (_, refl, used-again (number .ensures) (start .pre .1) (start .pre .2) (back .ensures) (painted .ensures .0) (painted .ensures .1) (c .replace .ensures))
+    (_, refl, used-again (number .ensures) (start .pre .1) (start .pre .2) (back .ensures) (painted .ensures .0) (painted .ensures .1) (c .replace-oldest .ensures))
 
 pub again-spec : {M : Type 1} → statement M
 again-spec =
@@ -69,7 +69,7 @@ again-spec =
     element-copy-out-old
     fill-back-requires
     paint-number-requires
-    replace-requires
+    replace-oldest-requires
     same-length
     same-length-2
     returns)
