@@ -1,3 +1,4 @@
 pub mod Found
 pub mod Tests
 pub mod Lookup
+pub mod Numbers

@@ -4,6 +4,7 @@ use picture::color_of;
 use refusals::Refusal;
 use table::Entry;
 use table::Table;
+use table::put_first;
 ghost use lib.ListN.{length};
 ghost use Rattle.regions.specs.Found.{meaning};
 ghost use Rattle.regions.specs.Tests.{Lookable};
@@ -46,21 +47,31 @@ pub fn get_region(
     requires { ⌜ Lookable (now pic) width height (length (now stack)) table x y ⌝ }
     ensures { λ r. ⌜ Answered (meaning (r .found)) (λ a. Looks (now (pic .entry)) width height x y table a (now (pic .exit)) (r .table)) ⌝ }
 {
-    let base = y * width;
-    let byte = pic[base + x];
-    if byte >= 5 {
-        return number::known(table, byte - 5);
-    }
-    if byte > 1 {
+    let byte = pic[y * width + x];
+    if number::is_claimed(byte) {
         return Looked {
             found: ColoredRegion::Claimed(color_of(byte)),
             table: table,
         };
     }
-    if table.n < 251 {
-        return number::fresh(pic, width, height, stack, table, x, y);
+    let mut u = table;
+    let mut age = u.age;
+    let choice = number::chosen(&age, u.n, byte);
+    let k = choice.number;
+    let i = k as usize;
+    let old = u.entries[i];
+    let entry = number::enter(pic, width, height, stack, x, y, old, k, byte, u.n);
+    u.entries[i] = entry;
+    put_first(&mut age, choice.place, k);
+    u.age = age;
+    u.n = choice.count;
+    Looked {
+        found: ColoredRegion::Unclaimed(Region {
+            number: k,
+            entry: entry,
+        }),
+        table: u,
     }
-    number::again(pic, width, height, stack, table, x, y)
 }
 
 // Looks the piece of (x, y) up: the table goes in and comes back.

@@ -1,40 +1,59 @@
-use crate::ColoredRegion;
-use crate::Looked;
-use crate::Region;
 use fill::paint::fill_black;
 use fill::paint::paint_and_count;
 use table::Entry;
-use table::Table;
-use table::add;
-use table::make_newest;
-use table::oldest;
-use table::replace_oldest;
+use table::place_of;
 ghost use mathlib.Core.Path.{_≡_};
+ghost use mathlib.Core.Bool.{true, false};
 ghost use Prim.Native.Nat.{_+_, _*_, _<_, _≤_};
 ghost use lib.ListN.{length};
-ghost use Rattle.pieces.specs.Picture.{px};
 ghost use Rattle.pieces.specs.Paint.{Paints};
 ghost use Rattle.fill.specs.Fill.{Sized, Fillable};
-ghost use Rattle.table.specs.Table.{entryOf, newest};
-ghost use Rattle.table.specs.Sound.{Ordered, Inside};
-ghost use Rattle.regions.specs.Found.{meaning, region};
-ghost use Rattle.regions.specs.Tests.{Lookable};
-ghost use Rattle.regions.specs.Lookup.{Answered, Measures, Fresh, givenUp, FilledBack, Again};
+ghost use Rattle.table.specs.Sound.{Inside};
+ghost use Rattle.regions.specs.Lookup.{Measures, FilledBack};
+ghost use Rattle.regions.specs.Numbers.{Choosable, Chosen, Enterable, Entered};
 
-// A numbered piece: its entry is made the newest.
-pub fn known(table: Table, k: u8) -> Looked
-    requires { ⌜ Ordered table × (k < table .n) ⌝ }
-    ensures { λ r. ⌜ (r .found ≡ ColoredRegion.Unclaimed (region k (entryOf table k))) × (r .table ≡ newest table k) ⌝ }
+// The number that a piece has or gets, its place in the age order, and how many entries there are then.
+pub struct Choice {
+    pub number: u8,
+    pub place: usize,
+    pub count: usize,
+}
+
+// Whether a byte is a claimed piece's.
+pub fn is_claimed(byte: u8) -> bool
+    ensures { λ r. ⌜ (r ≡ true → (2 ≤ byte) × (byte ≤ 4)) × (r ≡ false → byte < 5 → byte < 2) ⌝ }
 {
-    let i = k as usize;
-    let entry = table.entries[i];
-    let newer = make_newest(table, k);
-    Looked {
-        found: ColoredRegion::Unclaimed(Region {
-            number: k,
-            entry: entry,
-        }),
-        table: newer,
+    if byte < 2 {
+        return false;
+    }
+    byte < 5
+}
+
+// The number of a piece by the byte that it shows: its own; for a black one the next, or in a full table the oldest.
+pub fn chosen(age: &[u8], n: usize, byte: u8) -> Choice
+    requires { ⌜ Choosable (now age) n byte ⌝ }
+    ensures { λ c. ⌜ Chosen (now (age .entry)) n byte (c .number) (c .place) (c .count) ⌝ }
+{
+    if byte >= 5 {
+        let own = byte - 5;
+        let from = place_of(age, own);
+        return Choice {
+            number: own,
+            place: from,
+            count: n,
+        };
+    }
+    if n < 251 {
+        return Choice {
+            number: n as u8,
+            place: n,
+            count: n + 1,
+        };
+    }
+    Choice {
+        number: age[250],
+        place: 250,
+        count: n,
     }
 }
 
@@ -62,31 +81,6 @@ fn paint_number(
     }
 }
 
-// A black piece, while the table has room for one entry more.
-pub fn fresh(
-    pic: &mut [u8],
-    width: usize,
-    height: usize,
-    stack: &mut [u32],
-    table: Table,
-    x: usize,
-    y: usize,
-) -> Looked
-    requires { ⌜ Lookable (now pic) width height (length (now stack)) table x y × (px (now pic) width x y ≡ 1) × (table .n < 251) ⌝ }
-    ensures { λ r. ⌜ Answered (meaning (r .found)) (λ a. Fresh (now (pic .entry)) width height x y table a (now (pic .exit)) (r .table)) ⌝ }
-{
-    let k = table.n as u8;
-    let entry = paint_number(pic, width, height, stack, x, y, k);
-    let more = add(table, entry);
-    Looked {
-        found: ColoredRegion::Unclaimed(Region {
-            number: k,
-            entry: entry,
-        }),
-        table: more,
-    }
-}
-
 // Fills the piece of an entry back to black from its seed, if it still shows the entry's number k.
 fn fill_back(pic: &mut [u8], width: usize, height: usize, stack: &mut [u32], entry: Entry, k: u8)
     requires { ⌜ Sized (now pic) width height × Inside entry width height × (width * height ≤ length (now stack)) × (k < 251) ⌝ }
@@ -101,38 +95,28 @@ fn fill_back(pic: &mut [u8], width: usize, height: usize, stack: &mut [u32], ent
     fill_black(pic, width, height, stack, x, y);
 }
 
-// The number that a full table gives up: the oldest.
-fn given_up(table: Table) -> u8
-    requires { ⌜ table .n ≡ 251 ⌝ }
-    ensures { λ r. ⌜ r ≡ givenUp table ⌝ }
-{
-    oldest(table)
-}
-
-// A black piece, when the table is full: an entry is given up, and its number is used again.
-pub fn again(
+// The entry for the number k of the piece of (x, y): a numbered piece's old one; else the piece is painted, in a full table after the old entry's piece is filled back.
+pub fn enter(
     pic: &mut [u8],
     width: usize,
     height: usize,
     stack: &mut [u32],
-    table: Table,
     x: usize,
     y: usize,
-) -> Looked
-    requires { ⌜ Lookable (now pic) width height (length (now stack)) table x y × (px (now pic) width x y ≡ 1) × (table .n ≡ 251) ⌝ }
-    ensures { λ r. ⌜ Answered (meaning (r .found)) (λ a. Again (now (pic .entry)) width height x y table a (now (pic .exit)) (r .table)) ⌝ }
+    old: Entry,
+    k: u8,
+    byte: u8,
+    n: usize,
+) -> Entry
+    requires { ⌜ Enterable (now pic) width height (length (now stack)) x y old k byte n ⌝ }
+    ensures { λ e. ⌜ Entered (now (pic .entry)) width height x y old k byte n e (now (pic .exit)) ⌝ }
 {
-    let k = given_up(table);
-    let i = k as usize;
-    let old = table.entries[i];
-    fill_back(pic, width, height, stack, old, k);
-    let entry = paint_number(pic, width, height, stack, x, y, k);
-    let other = replace_oldest(table, entry);
-    Looked {
-        found: ColoredRegion::Unclaimed(Region {
-            number: k,
-            entry: entry,
-        }),
-        table: other,
+    if byte >= 5 {
+        return old;
     }
+    if n < 251 {
+        return paint_number(pic, width, height, stack, x, y, k);
+    }
+    fill_back(pic, width, height, stack, old, k);
+    paint_number(pic, width, height, stack, x, y, k)
 }

@@ -1,5 +1,5 @@
 pub mod Places
-pub mod Front
+pub mod Sought
 pub mod Onward
 pub mod Marks
 pub mod Round
@@ -8,3 +8,4 @@ pub mod Times
 pub mod Exact
 pub mod Kept
 pub mod Entries
+pub mod Written

@@ -1,5 +1,5 @@
 -- A list that is written over from its front, place by place. Assumes nothing.
-use Prim.Native.Nat.{ℕ, zero, suc, _≤_, _<_}
+use Prim.Native.Nat.{ℕ, zero, suc, _<_}
 use native.Mathlib.Nat.{le-of-suc-le-suc, not-suc-le-zero}
 use mathlib.Core.Path.{_≡_, refl, ap}
 use mathlib.Core.List.{List, [], _∷_, _++_}
@@ -11,10 +11,3 @@ over [] l i h k = absurd (not-suc-le-zero h)
 over (x ∷ m) [] i h k = absurd (not-suc-le-zero k)
 over (x ∷ m) (y ∷ l) zero h k = refl
 over (x ∷ m) (y ∷ l) (suc i) h k = ap (λ (r : List ℕ). x ∷ r) (over m l i (le-of-suc-le-suc h) (le-of-suc-le-suc k))
-
--- what is not yet written over is as it was
-pub ahead : (m l : List ℕ) (i : ℕ) → i ≤ length m → i < length l → getD (take i m ++ drop i l) i 0 ≡ getD l i 0
-ahead m [] i h k = absurd (not-suc-le-zero k)
-ahead m (y ∷ l) zero h k = refl
-ahead [] (y ∷ l) (suc i) h k = absurd (not-suc-le-zero h)
-ahead (x ∷ m) (y ∷ l) (suc i) h k = ahead m l i (le-of-suc-le-suc h) (le-of-suc-le-suc k)

@@ -26,6 +26,10 @@ pub record FirstAt (k i : ℕ) (l : List ℕ) : Type 0 where
   pub is-k : getD l i 0 ≡ k
   pub not-before : times k (take i l) ≡ 0
 
+-- l without what stands at place i
+abbrev pub leftOut : ℕ → List ℕ → List ℕ
+leftOut i l = take i l ++ drop (suc i) l
+
 -- l with its first n turned round
 unfoldable pub turnedRound : ℕ → List ℕ → List ℕ
 turnedRound n l = reverse (take n l) ++ drop n l

@@ -1,30 +1,26 @@
 ghost use mathlib.Core.Path.{_≡_};
 ghost use mathlib.Core.List.{_∷_};
-ghost use Prim.Native.Nat.{_≤_};
+ghost use Prim.Native.Nat.{_≤_, _<_};
 ghost use lib.ListN.{length, take};
-ghost use Rattle.table.specs.Age.{Stands, FirstAt, without, turnedRound};
+ghost use Rattle.table.specs.Age.{Stands, FirstAt, leftOut, turnedRound};
 ghost use Rattle.table.specs.Sound.{onceEach};
 
-// Brings k to the front of an age order; the others keep their order.
-pub fn to_front(age: &mut [u8], k: u8)
+// The place at which k stands first.
+pub fn place_of(age: &[u8], k: u8) -> usize
     requires { ⌜ Stands k (now age) ⌝ }
-    ensures { λ _. ⌜ now (age .exit) ≡ k ∷ without k (now (age .entry)) ⌝ }
+    ensures { λ i. ⌜ FirstAt k i (now (age .entry)) ⌝ }
 {
-    let mut v = k;
     let mut i = 0;
     while age[i] != k {
-        let x = age[i];
-        age[i] = v;
-        v = x;
         i += 1;
     }
-    age[i] = v;
+    i
 }
 
-// Brings k, which stands first at place i, to the front: those before it go one place on.
-pub fn to_front_from(age: &mut [u8], i: usize, k: u8)
-    requires { ⌜ FirstAt k i (now age) ⌝ }
-    ensures { λ _. ⌜ now (age .exit) ≡ k ∷ without k (now (age .entry)) ⌝ }
+// Puts k in front, for what stands at place i: those before it go one place on.
+pub fn put_first(age: &mut [u8], i: usize, k: u8)
+    requires { ⌜ i < length (now age) ⌝ }
+    ensures { λ _. ⌜ now (age .exit) ≡ k ∷ leftOut i (now (age .entry)) ⌝ }
 {
     let mut j = i;
     while 0 < j {

@@ -1,11 +1,12 @@
 ghost use mathlib.Core.Path.{_≡_};
-ghost use Prim.Native.Nat.{_≤_, _<_};
-ghost use Rattle.table.specs.Table.{emptyTable, oldestOf, newest, added, replaced, copyOf};
-ghost use Rattle.table.specs.Sound.{Ordered};
+ghost use Prim.Native.Nat.{_≤_};
+ghost use Rattle.table.specs.Table.{emptyTable, copyOf};
 
 mod age;
 mod sound;
 
+pub use age::place_of;
+pub use age::put_first;
 pub use sound::is_sound;
 
 // A region as the table keeps it: the pixel that it was met at, and how many pixels it has.
@@ -33,60 +34,6 @@ pub fn empty() -> Table
         age: age,
         n: 0,
     }
-}
-
-// The number that was longest not looked up.
-pub fn oldest(t: Table) -> u8
-    requires { ⌜ (0 < t .n) × (t .n ≤ 251) ⌝ }
-    ensures { λ r. ⌜ r ≡ oldestOf t ⌝ }
-{
-    let last = t.n - 1;
-    t.age[last]
-}
-
-// The entry of k is made the newest.
-pub fn make_newest(t: Table, k: u8) -> Table
-    requires { ⌜ Ordered t × (k < t .n) ⌝ }
-    ensures { λ r. ⌜ r ≡ newest t k ⌝ }
-{
-    let mut u = t;
-    let mut age = u.age;
-    age::to_front(&mut age, k);
-    u.age = age;
-    u
-}
-
-// One entry more, the newest: its number is n.
-pub fn add(t: Table, e: Entry) -> Table
-    requires { ⌜ Ordered t × (t .n < 251) ⌝ }
-    ensures { λ r. ⌜ r ≡ added t e ⌝ }
-{
-    let mut u = t;
-    let n = u.n;
-    let number = n as u8;
-    u.entries[n] = e;
-    let mut age = u.age;
-    age[n] = number;
-    age::to_front_from(&mut age, n, number);
-    u.age = age;
-    u.n = n + 1;
-    u
-}
-
-// The oldest entry gives way to another, which is the newest: its number is used again.
-pub fn replace_oldest(t: Table, e: Entry) -> Table
-    requires { ⌜ Ordered t × (0 < t .n) ⌝ }
-    ensures { λ r. ⌜ r ≡ replaced t (oldestOf t) e ⌝ }
-{
-    let mut u = t;
-    let last = u.n - 1;
-    let mut age = u.age;
-    let k = age[last];
-    let i = k as usize;
-    u.entries[i] = e;
-    age::to_front_from(&mut age, last, k);
-    u.age = age;
-    u
 }
 
 // A trial's copy: the entries kept, the age order turned round.

@@ -1,18 +1,18 @@
--- `to_front_from` goes down from the place of k, and puts k into the place that is left. Assumes nothing.
+-- `put_first` goes down from the place, and puts k into the place that is left. Assumes nothing.
 use native.Mathlib.Omega.{arith}
 use borrow.Author.Needs.{needs}
 use Rattle.table.proofs.Onward.{Onward, onward-begin, onward-on, onward-end}
-use Rattle.table.proofs.age.to_front_from.Statement.{statement}
-use Rattle.table.proofs.age.to_front_from.Tie as tie
+use Rattle.table.proofs.age.put_first.Statement.{statement}
+use Rattle.table.proofs.age.put_first.Tie as tie
 
 abbrev Inv-loop : tie.InvT-loop
-Inv-loop age₀ i k j₀ age j = Onward k age₀ age j
+Inv-loop age₀ i k j₀ age j = Onward i age₀ age j
 
 abbrev μ-loop : tie.MeasureT-loop
 μ-loop age₀ i k j₀ age j = j
 
 loop-holds : tie.Need-loop-holds Inv-loop μ-loop
-loop-holds c = onward-begin _ _ _ (c .pre)
+loop-holds c = onward-begin _ _ (c .pre)
 
 sub-age : tie.Need-sub-age Inv-loop μ-loop
 sub-age c = search needs
@@ -39,10 +39,10 @@ same-length : tie.Need-same-length Inv-loop μ-loop
 same-length c = search needs
 
 returns : tie.Need-returns Inv-loop μ-loop
-returns c = onward-end (c .before .loop .inv) (omega arith)
+returns c = onward-end _ (c .before .loop .inv) (omega arith)
 
-pub to-front-from-spec : {M : Type 1} → statement M
-to-front-from-spec =
+pub put-first-spec : {M : Type 1} → statement M
+put-first-spec =
     tie.close
     (tie.spec
     Inv-loop
