@@ -27,10 +27,10 @@ landedLine c x v = record {
 }
 
 module _ (pic : List ℕ) (width height : ℕ) where
-  -- the point that lies there
+  -- what the picture shows where a point lies
   unfoldable pub pointAt : Landing → Finding ℤ
   pointAt l = seenAt pic width height (along (nearestOf (l .right))) (along (nearestOf (l .below)))
 
-  -- the three points that lie there
+  -- what it shows where three points lie
   unfoldable pub lineAt : Landings → Finding ℤ
   lineAt l = pointAt (l .first) ⊞ pointAt (l .second) ⊞ pointAt (l .third)

@@ -151,7 +151,7 @@ fn land_line(c: Perspective, x: f64, v: f64) -> Landings
     }
 }
 
-// A point that lies there.
+// What the picture shows where a point lies.
 fn fitness_point(pic: &[u8], width: usize, height: usize, at: Landing) -> Fitness
     requires { ⌜ Sized width height (length (now pic)) ⌝ }
     ensures { λ r. ⌜ Scores (pointAt (now (pic .entry)) width height at) 1 r ⌝ }
@@ -161,7 +161,7 @@ fn fitness_point(pic: &[u8], width: usize, height: usize, at: Landing) -> Fitnes
     dark_at(pic, width, height, x, y)
 }
 
-// Three points that lie there.
+// What it shows where three points lie.
 fn fitness_line(pic: &[u8], width: usize, height: usize, at: Landings) -> Fitness
     requires { ⌜ Sized width height (length (now pic)) ⌝ }
     ensures { λ r. ⌜ Scores (lineAt (now (pic .entry)) width height at) 3 r ⌝ }
