@@ -2,4 +2,4 @@ pub mod Accepted
 pub mod Unique
 pub mod Twice
 pub mod Asks
-pub mod Settled
+pub mod Numbering

@@ -8,7 +8,7 @@ use Rattle.pieces.specs.Picture.{px}
 use Rattle.regions.specs.Found.{claimed}
 use Rattle.regions.specs.Lookup.{at-claimed}
 use Rattle.regions.proofs.Asks.{seed-place}
-use Rattle.regions.proofs.Settled.{choosable, chosen-low, chosen-place, enterable, settled}
+use Rattle.regions.proofs.Numbering.{choosable, chosen-low, chosen-place, enterable, numbered-looks}
 use Rattle.regions.proofs.get_region.Statement.{statement}
 use Rattle.regions.proofs.get_region.Tie as tie
 
@@ -95,7 +95,7 @@ returns-2 c =
     let entered = c .before .before .before .before .before .before .before in
     let chosen = entered .before .before .before .before in
     let start = chosen .before .before .before .before .before .before .before .before in
-    (_, refl, rw (c .before .put-first .ensures) (settled (start .pre) (whole start) (chosen .chosen .ensures) (entered .enter .ensures)))
+    (_, refl, rw (c .before .put-first .ensures) (numbered-looks (start .pre) (whole start) (chosen .chosen .ensures) (entered .enter .ensures)))
 
 pub get-region-spec : {M : Type 1} → statement M
 get-region-spec =

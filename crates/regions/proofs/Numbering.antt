@@ -55,11 +55,11 @@ module _ {p : List ℕ} {w h lent : ℕ} {T : Table} {x y : ℕ} (L : Lookable p
       }
 
   -- what is then written is what the lookup leaves
-  pub settled : {k i count : ℕ} {e : Entry} {q : List ℕ}
+  pub numbered-looks : {k i count : ℕ} {e : Entry} {q : List ℕ}
       → Chosen (T .age) (T .n) (px p w x y) k i count
       → Entered p w h x y (entryOf T k) k (px p w x y) (T .n) e q
       → Looks p w h x y T (unclaimed (region k e)) q (written T k i e count)
-  settled {k} {i} {count} {e} (its-own shows first same) E =
+  numbered-looks {k} {i} {count} {e} (its-own shows first same) E =
       let kept = E .kept (omega arith) in
       at-known
       (record {
@@ -69,7 +69,7 @@ module _ {p : List ℕ} {w h lent : ℕ} {T : Table} {x y : ℕ} (L : Lookable p
         picture = kept .1;
         table = (λ j. written T k i (kept .0 j) (same j)) ∙ newest-written T k i first;
       })
-  settled {k} {i} {count} {e} (the-next black few is place more) E =
+  numbered-looks {k} {i} {count} {e} (the-next black few is place more) E =
       let painted = E .fresh (omega arith) few in
       at-fresh
       (record {
@@ -81,7 +81,7 @@ module _ {p : List ℕ} {w h lent : ℕ} {T : Table} {x y : ℕ} (L : Lookable p
         answer = ap (λ (j : ℕ). unclaimed (region j e)) is;
         table = (λ j. written T (is j) (place j) e (more j)) ∙ added-written T A ordered e few;
       })
-  settled {k} {i} {count} {e} (the-oldest black full is place same) E =
+  numbered-looks {k} {i} {count} {e} (the-oldest black full is place same) E =
       let painted = E .again (omega arith) (omega arith) in
       at-again
       (record {
