@@ -3,6 +3,11 @@ mod alignment;
 mod rings;
 mod timing;
 
+pub use alignment::count;
+pub use alignment::fitness_columns;
+pub use alignment::fitness_edges;
+pub use rings::fitness_capstone;
+pub use timing::fitness_timing;
 ghost use lib.ListN.{length};
 ghost use Rattle.picture.specs.Sides.{Sized};
 ghost use Rattle.fitness.specs.Fitness.{GridSize, fitnessOf};

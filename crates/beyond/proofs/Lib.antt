@@ -1,0 +1,5 @@
+mod Reach
+mod Within
+mod Order
+mod Standing
+mod Grid

@@ -1,0 +1,3 @@
+pub mod Capped
+pub mod Looks
+pub mod Most
