@@ -1,4 +1,5 @@
 pub mod Steps
+mod Capped
 pub mod Earned
 pub mod Alike
 pub mod Determined

@@ -57,10 +57,14 @@ fn tried(
     ensures { λ r. ⌜ meaning r ≡ trial (fitnessOf (now (pic .entry)) width height size) steps i (found best) ⌝ }
 {
     let old = best.c;
+    let score = best.score;
     let new = adjust::adjusted(steps, old, i);
     judged(
         best,
-        scored(new, fitness::fitness_all(pic, width, height, new, size)),
+        scored(
+            new,
+            beyond::fitness_beyond(pic, width, height, new, size, score),
+        ),
     )
 }
 
