@@ -45,12 +45,14 @@ unfolding unlisted
 number-listed byte n k e low = rw (le-leb 5 byte (omega arith)) (lt-leb n (byte - 5) (omega arith))
 
 module _ {p : List ℕ} {w h : ℕ} {T : Table} {estimate x y : ℕ} where
+  -- at a claimed piece the pass stays
   claimed-stays : 2 ≤ px p w x y → px p w x y ≤ 4 → VisitsPixel p w h T estimate x y visit.Stays p T
   unfolding visitOf
   claimed-stays low high =
       looked (λ e. omega arith) (claimed-listed (px p w x y) (T .n) high) (claimed (colourOf (px p w x y)))
       (at-claimed (record { low = low; high = high; answer = refl; picture = refl; table = refl })) refl
 
+  -- at the newest entry's piece, where that entry is of another size, the pass moves
   passed-moves : most ≤ length (T .age) → Ordered T → PassedBy estimate T (px p w x y) → VisitsPixel p w h T estimate x y visit.Moves p T
   passed-moves A O B =
       let k = newestOf T in
@@ -67,6 +69,7 @@ module _ (p : List ℕ) (w h estimate : ℕ) (T : Table) (at : Point) where
   Settles Unsure = Unit {0}
 
 module _ (p : List ℕ) (w h estimate : ℕ) {T : Table} (A : most ≤ length (T .age)) (O : Ordered T) (at : Point) where
+  -- a glance at a pixel is right
   pixel-settles : (x y : ℕ) → placeOf w h at ≡ Pixel x y → Settles p w h estimate T at (glanceOf (passedOf estimate T) (px p w x y))
   unfolding glanceOf
   pixel-settles x y o =
@@ -82,12 +85,13 @@ module _ (p : List ℕ) (w h estimate : ℕ) {T : Table} (A : most ≤ length (T
       (λ m. rw (ne-eqb byte 0 dark, ne-eqb byte passed other, le-leb 2 byte low, lt-leb byte 4 (omega arith)) tt))
       (λ m. rw (ne-eqb byte 0 dark, ne-eqb byte passed other, lt-leb 2 byte (omega arith)) tt)))
 
+  -- a glance at a place is right, by where the place lies
   place-settles : (o : Place) → placeOf w h at ≡ o → Settles p w h estimate T at (glanceAt p w (passedOf estimate T) o)
   unfolding glanceAt
   place-settles (Pixel x y) e = pixel-settles x y e
   place-settles Beside e = beside e refl refl refl
 
-  -- a glance is right
+  -- the same, by what the glance tells
   glance-settles : {g : Glance} → glanceAt p w (passedOf estimate T) (placeOf w h at) ≡ g → Settles p w h estimate T at g
   glance-settles e = subst (Settles p w h estimate T at) e (place-settles (placeOf w h at) refl)
 
@@ -107,6 +111,7 @@ pub record Reached (s t : Pass) (to : Point) : Type 0 where
   pub less : passesLeft t ≤ passesLeft s
 
 module _ {p : List ℕ} {w h estimate passed : ℕ} (few : estimate ≤ farthest) where
+  -- a glide leads to a pass as the spiral comes to it, with no more passes left, and to a place that is near enough
   pub glide-reaches : {s : Pass} {at : Point} {t : Pass} {to : Point} → Turning s → Reachable s at → Glides p w h estimate passed s at t to → Reached s t to
   glide-reaches {s} S N (ends far) = record { turning = S; near = N; less = le-refl (passesLeft s) }
   glide-reaches {s} S N (halts low e) = record { turning = S; near = N; less = le-refl (passesLeft s) }
@@ -128,24 +133,30 @@ module _ (p : List ℕ) (w h estimate passed : ℕ) (first : Pass) (from : Point
     pub then : (t : Pass) (to : Point) → Glides p w h estimate passed s at t to → Glides p w h estimate passed first from t to
 
 module _ {p : List ℕ} {w h estimate passed : ℕ} {first : Pass} {from : Point} where
+  -- a glide starts on its way
   pub way-begun : estimate ≤ farthest → Turning first → Reachable first from → OnTheWay p w h estimate passed first from first from
   way-begun few S N = record { few = few; turning = S; near = N; then = λ t to G. G }
 
   module _ {s : Pass} {at : Point} (O : OnTheWay p w h estimate passed first from s at) where
+    -- where the leg is too long, the way is at its end
     pub way-far : estimate * 100 ≤ s .step * s .step → Glides p w h estimate passed first from s at
     way-far far = O .then s at (ends far)
 
     module _ (low : s .step * s .step < estimate * 100) where
+      -- the next pass is one of the spiral's
       after : After s (nextPass s)
       after = next-after (O .turning) (step-few (s .step) estimate low (O .few))
 
+      -- and has fewer left
       pub way-less : passesLeft (nextPass s) < passesLeft s
       way-less = after .less
 
       module _ {g : Glance} (is : g ≡ glanceAt p w passed (placeOf w h at)) where
+        -- where the glance settles nothing, the way is at its end
         pub way-unsure : g ≡ Unsure → Glides p w h estimate passed first from s at
         way-unsure e = O .then s at (halts low (sym is ∙ e))
 
+        -- it goes on with a move, or without
         pub way-moves : g ≡ Moves → OnTheWay p w h estimate passed first from (nextPass s) (moved s at)
         way-moves e = record { few = O .few; turning = after .turning; near = moved-near (after .less) (O .near); then = λ t to G. O .then t to (goes low (sym is ∙ e) G) }
 

@@ -46,12 +46,15 @@ module _ {p0 : List ℕ} {w h estimate : ℕ} {first : Pass} {from : Point} {T0 
     along-far far = A .then _ _ _ (too-far far)
 
     module _ {passed : ℕ} (is : passed ≡ passedOf estimate T) {t : Pass} {to : Point} (G : Glides p w h estimate passed s at t to) where
+      -- where a glide from here leads
       reached : Reached s t to
       reached = glide-reaches (A .few) (A .turning) (A .near) G
 
+      -- a glide leaves no more passes than before
       pub along-fewer : passesLeft t ≤ passesLeft s
       along-fewer = reached .less
 
+      -- a glide is on the way, too
       pub along-glides : Along p0 w h estimate first from T0 p lent t to T
       along-glides =
           record {

@@ -13,6 +13,7 @@ use Rattle.alignment.proofs.Gliding.{glide-spirals, glide-reaches}
 use Rattle.alignment.proofs.search.find_alignment_pattern.Statement.{statement}
 use Rattle.alignment.proofs.search.find_alignment_pattern.Tie as tie
 
+-- the table as the search is handed it: its age order is whole, and in order
 module _ (s : tie.Start) where
   age-whole : 251 ≤ length (s .args .table .age)
   age-whole = let age : length (s .args .table .age) ≡ 251 = search needs in omega arith
