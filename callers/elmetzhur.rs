@@ -1,38 +1,9 @@
 //! Elmetzhur, for callers in Rust: from a grey frame to the cells of each grid. Every buffer is the caller's, and no function here can panic
 //! or touch memory that it was not lent: the calls behind it are proved for every input.
-use std::os::raw::c_uchar;
-
-extern "C" {
-    fn elmetzhur_accept(pic: *const u8, n: usize, width: usize, height: usize) -> c_uchar;
-    fn elmetzhur_prepare(pic: *mut u8, n: usize, width: usize, height: usize) -> c_uchar;
-    fn elmetzhur_detect(
-        pic: *mut u8,
-        n: usize,
-        width: usize,
-        height: usize,
-        stack: *mut u32,
-        entries: usize,
-        scratch: *mut u8,
-        kept: usize,
-        counts: *mut usize,
-        room: usize,
-        places: *mut i32,
-        numbers: usize,
-        floats: *mut f64,
-        coefficients: usize,
-    ) -> c_uchar;
-    fn elmetzhur_read_cell(
-        pic: *const u8,
-        n: usize,
-        width: usize,
-        height: usize,
-        size: u8,
-        c: *const f64,
-        coefficients: usize,
-        y: u8,
-        x: u8,
-    ) -> c_uchar;
-}
+#[allow(dead_code)]
+#[path = "calls.rs"]
+mod calls;
+use calls::{elmetzhur_accept, elmetzhur_detect, elmetzhur_prepare, elmetzhur_read_cell};
 
 const DARK: u8 = 254;
 const LIGHT: u8 = 255;
