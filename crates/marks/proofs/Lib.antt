@@ -5,6 +5,7 @@ pub mod Cut
 pub mod Fills
 pub mod Reach
 pub mod Array
+pub mod Lines
 pub mod Searching
 pub mod Whole
 pub mod Begin

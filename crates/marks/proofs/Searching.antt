@@ -1,6 +1,5 @@
--- A search keeps the picture in work, and goes on from cut to cut and from line to line. Assumes nothing.
+-- A search keeps the picture in work, and goes on from cut to cut. Assumes nothing.
 use Prim.Native.Nat.{ℕ, zero, suc, _+_, _-_, _*_, _≤_, _<_}
-use native.Mathlib.Numerals.{add-one}
 use native.Mathlib.Omega.{arith}
 use mathlib.Core.Path.{_≡_, refl, sym, ap, _∙_, subst}
 use mathlib.Core.Bool.{Bool, true, false, not, cond, _&&_}
@@ -25,26 +24,26 @@ use Rattle.pieces.specs.Count.{Mem}
 use Rattle.table.specs.declared.Table.{Table}
 use Rattle.scanner.specs.Edges.{dark}
 use Rattle.scanner.specs.Cuts.{lineCuts}
-use Rattle.scanner.specs.Lines.{some, nextLine}
-use Rattle.scanner.specs.Scan.{begun, ahead, OnLine, Comes, to-cut, to-end}
-use Rattle.scanner.specs.declared.Advanced.{Advanced}
-use Rattle.scanner.specs.declared.Advanced.the-variants.{Cut, Done}
+use Rattle.scanner.specs.Scan.{begun, OnLine}
 use Rattle.scanner.specs.declared.LinePosition.{LinePosition}
 use Rattle.scanner.specs.declared.LineScanner.{LineScanner}
 use Rattle.scanner.proofs.Dark.{OnDark, line-dark}
-use Rattle.scanner.proofs.Ahead.{begins, begun-on}
+use Rattle.scanner.proofs.Ahead.{begun-on}
 use Rattle.scanner.proofs.Alike.{ahead-alike, line-alike}
-use Rattle.scanner.proofs.NextLine.{none-on, next-alike}
 use Rattle.corners.specs.declared.all_corners.AllCornerFinder.{AllCornerFinder}
 use Rattle.capstones.specs.declared.CapStone.{CapStone}
 use Rattle.marks.specs.InWork.{InWork, AtCut}
 use Rattle.marks.specs.Stone.{middle, seven, placedStone, centredStone, seenStone, stoneOf}
-use Rattle.marks.specs.Search.{Tries, no-ring, ring, Place, placesOn, cutsFrom, allCuts, Searches, finished, tried, stopped, stonesOf, told, goes, outcome, Laid}
+use Rattle.marks.specs.Cuts.{Place, placesOn, cutsFrom, allCuts, cutsAfter, Reaches, next-cut, no-cut}
+use Rattle.marks.specs.declared.cuts.Cutting.{Cutting}
+use Rattle.marks.specs.declared.cuts.Cutting.the-variants.{At, Done}
+use Rattle.marks.specs.Search.{Tries, no-ring, ring, Searches, finished, tried, stopped, stonesOf, told, outcome, Laid}
 use Rattle.marks.specs.declared.search.Marks.{Marks}
 use Rattle.marks.proofs.Work.{Goes, goes-on, goes-still}
 use Rattle.marks.proofs.Cut.{tests-go, tests-ringed}
 use Rattle.marks.proofs.Fills.{rings-go}
 use Rattle.marks.proofs.Array.{going-count}
+use Rattle.marks.proofs.Lines.{from-begun}
 
 -- a stone is found only where there is room for it
 room-of : {A : Type 0} (far full : Bool) (a : A) (f : Finding A) → cond far (refusedBy refusal.Far) (cond full (refusedBy refusal.Stones) f) ≡ found a → full ≡ false
@@ -159,120 +158,6 @@ line-stands {p} {w} {h} {y} low at m =
     let r = on-line y (lineCuts p (y * w) w) at m in
     record { in-y = omega (arith, r .0); columns = subst (λ (v : ℕ). OnDark p (v * w) w (at .cut)) (sym (r .0)) (line-dark p (y * w) w (at .cut) (r .1)) }
 
--- one search after the other
-pub search-on : {xs ys : List Place} {w h : ℕ} {p : List ℕ} {T : Table} {l k : List CapStone} {g f : Finding (List CapStone)} {m : List ℕ} {Between : Table} {q : List ℕ} {U : Table}
-    → Searches w h xs p T l g m Between → g ≡ found k → Searches w h ys m Between k f q U → Searches w h (xs ++ ys) p T l f q U
-search-on {ys = ys} {w = w} {h = h} {p = p} {T = T} {l = l} {k = k} {f = f} {q = q} {U = U} finished e S = let same : k ≡ l = cc in subst (λ (v : List CapStone). Searches w h ys p T v f q U) same S
-search-on (tried X S) e R = tried X (search-on S e R)
-search-on (stopped X) e R = let z : _≡_ {A = ℕ} 0 1 = cc in absurd (omega arith)
-
-pub search-stops : {xs : List Place} (ys : List Place) {w h : ℕ} {p : List ℕ} {T : Table} {l : List CapStone} {g : Finding (List CapStone)} {q : List ℕ} {U : Table} {n : ℕ}
-    → Searches w h xs p T l g q U → g ≡ refused n → Searches w h (xs ++ ys) p T l g q U
-search-stops ys finished e = let z : _≡_ {A = ℕ} 0 1 = cc in absurd (omega arith)
-search-stops ys (tried X S) e = tried X (search-stops ys S e)
-search-stops ys (stopped X) e = stopped X
-
--- what a verdict says of an outcome
-sound-found : (v : Verdict) (l : List CapStone) → goes v ≡ true → told v l ≡ found l
-unfolding goes told
-sound-found Sound l e = refl
-sound-found (Refused why) l e = let z : _≡_ {A = ℕ} 0 1 = cc in absurd (omega arith)
-
-refused-told : (v : Verdict) (l : List CapStone) → goes v ≡ false → (n : ℕ) × (told v l ≡ refused n)
-unfolding goes told
-refused-told Sound l e = let z : _≡_ {A = ℕ} 0 1 = cc in absurd (omega arith)
-refused-told (Refused why) l e = (_, refl)
-
-pub goes-found : (s : Marks) → goes (s .verdict) ≡ true → outcome s ≡ found (stonesOf s)
-goes-found s e = sound-found (s .verdict) (stonesOf s) e
-
-pub stops-refused : (s : Marks) → goes (s .verdict) ≡ false → (n : ℕ) × (outcome s ≡ refused n)
-stops-refused s e = refused-told (s .verdict) (stonesOf s) e
-
--- what a scan comes to, by its case
-pub comes : {p : List ℕ} {base w : ℕ} {scan : LineScanner} {a b : Advanced} → a ≡ b → Comes p base w scan a → Comes p base w scan b
-comes {p} {base} {w} {scan} e C = subst (Comes p base w scan) e C
-
--- along a line: what is ahead is still to be searched
-module _ (p0 : List ℕ) (w h y : ℕ) (T0 : Table) (l0 : List CapStone) where
-  pub record Along (p : List ℕ) (lent : ℕ) (scan : LineScanner) (s : Marks) : Type 0 where
-    pub goes : Goes p0 w h p lent (s .table)
-    pub low : y < h
-    pub laid : Laid s
-    pub going : outcome s ≡ found (stonesOf s)
-    pub on : OnLine w scan
-    pub each : (at : LinePosition) → Mem at (ahead p0 (y * w) w scan) → OnDark p0 (y * w) w at
-    pub then : (f : Finding (List CapStone)) (q : List ℕ) (U : Table)
-        → Searches w h (placesOn y (ahead p0 (y * w) w scan)) p (s .table) (stonesOf s) f q U → Searches w h (placesOn y (lineCuts p0 (y * w) w)) p0 T0 l0 f q U
-
-module _ {p0 : List ℕ} {w h y : ℕ} where
-  pub along-begun : {lent : ℕ} {s : Marks} {scan : LineScanner} → InWork p0 w h lent (s .table) → y < h → Laid s → outcome s ≡ found (stonesOf s) → scan ≡ begun → Along p0 w h y (s .table) (stonesOf s) p0 lent scan s
-  along-begun {scan = scan} W low laid going e =
-      let all : ahead p0 (y * w) w scan ≡ lineCuts p0 (y * w) w = rw e (begins p0 (y * w) w) in
-      record {
-        goes = goes-still W (omega arith);
-        low = low;
-        laid = laid;
-        going = going;
-        on = rw e (begun-on w);
-        each = λ at m. line-dark p0 (y * w) w at (subst (Mem at) all m);
-        then = λ f q U S. rw all at S;
-      }
-
-  module _ {T0 : Table} {l0 : List CapStone} {p : List ℕ} {lent : ℕ} {scan : LineScanner} {s : Marks} (A : Along p0 w h y T0 l0 p lent scan s) where
-    same-ahead : (t : LineScanner) → ahead p0 (y * w) w t ≡ ahead p (y * w) w t
-    same-ahead t = ahead-alike p0 p (y * w) (A .goes .alike (y * w)) w t
-
-    pub along-ends : Comes p (y * w) w scan Done → Searches w h (placesOn y (lineCuts p0 (y * w) w)) p0 T0 l0 (outcome s) p (s .table)
-    along-ends (to-end none) =
-        let left : ahead p0 (y * w) w scan ≡ [] = same-ahead scan ∙ none in
-        rw (A .going) (A .then _ _ _ (rw left finished))
-
-    module _ {at : LinePosition} {next : LineScanner} where
-      met : Comes p (y * w) w scan (Cut at next) → (ahead p0 (y * w) w scan ≡ at ∷ ahead p0 (y * w) w next) × OnLine w next
-      met (to-cut _ _ e on) = (same-ahead scan ∙ e ∙ ap (λ (l : List LinePosition). at ∷ l) (sym (same-ahead next)), on)
-
-      pub along-less : Comes p (y * w) w scan (Cut at next) → length (ahead p0 (y * w) w next) < length (ahead p0 (y * w) w scan)
-      along-less C = rw (met C .0) (omega arith)
-
-      pub along-asks : Comes p (y * w) w scan (Cut at next) → AtCut p w h lent (s .table) y at
-      along-asks C =
-          let here : Mem at (ahead p0 (y * w) w scan) = rw (met C .0) (inl refl) in
-          record { work = A .goes .work; in-y = A .low; columns = still-dark (A .goes .alike (y * w)) (A .each at here) }
-
-      module _ {q : List ℕ} {r : Marks} (C : Comes p (y * w) w scan (Cut at next)) (K : Takes p w h y at s q r) where
-        -- the cut is tried after as many stones as there are
-        counted : {f : Finding (List CapStone)} → Tries p w h y at (s .table) (s .n) f q (r .table) → Tries p w h y at (s .table) (length (stonesOf s)) f q (r .table)
-        counted {f} X = subst (λ (n : ℕ). Tries p w h y at (s .table) n f q (r .table)) (going-count (A .laid) (A .going)) X
-
-        pub along-stops : (n : ℕ) → outcome r ≡ refused n → Searches w h (placesOn y (lineCuts p0 (y * w) w)) p0 T0 l0 (outcome r) q (r .table)
-        unfolding added
-        along-stops n e = rw e (A .then _ _ _ (rw (met C .0) (go (K .finding) (K .tries) (sym (K .is) ∙ e))))
-          where
-            go : (f : Finding (List CapStone)) → Tries p w h y at (s .table) (s .n) f q (r .table) → added (stonesOf s) f ≡ refused n → Searches w h (placesOn y (at ∷ ahead p0 (y * w) w next)) p (s .table) (stonesOf s) (refused n) q (r .table)
-            go (found new) X g = let z : _≡_ {A = ℕ} 0 1 = cc in absurd (omega arith)
-            go (refused k) X g = let same : k ≡ n = cc in rw (← same) (stopped (counted X))
-
-        pub along-next : {room : ℕ} → lent ≤ room → outcome r ≡ found (stonesOf r) → Along p0 w h y T0 l0 q room next r
-        unfolding added
-        along-next more e =
-            record {
-              goes = goes-on (A .goes) (tries-go (along-asks C) more (K .tries));
-              low = A .low;
-              laid = K .laid;
-              going = e;
-              on = met C .1;
-              each = λ o m. A .each o (rw (met C .0) (inr m));
-              then = λ f u U S. A .then f u U (rw (met C .0) (go (K .finding) (K .tries) (sym (K .is) ∙ e) S));
-            }
-          where
-            go : (f : Finding (List CapStone)) → Tries p w h y at (s .table) (s .n) f q (r .table) → added (stonesOf s) f ≡ found (stonesOf r) → {g : Finding (List CapStone)} {u : List ℕ} {U : Table}
-                → Searches w h (placesOn y (ahead p0 (y * w) w next)) q (r .table) (stonesOf r) g u U → Searches w h (placesOn y (at ∷ ahead p0 (y * w) w next)) p (s .table) (stonesOf s) g u U
-            go (found new) X e {g} {u} {U} S =
-                let same : stonesOf r ≡ stonesOf s ++ new = cc in
-                tried (counted X) (subst (λ (v : List CapStone). Searches w h (placesOn y (ahead p0 (y * w) w next)) q (r .table) v g u U) same S)
-            go (refused n) X e S = let z : _≡_ {A = ℕ} 0 1 = cc in absurd (omega arith)
-
 -- stones that are found are those that stand
 pub found-stones : (s : Marks) (l : List CapStone) → outcome s ≡ found l → (outcome s ≡ found (stonesOf s)) × (stonesOf s ≡ l)
 unfolding told
@@ -282,88 +167,104 @@ found-stones s l e = go (s .verdict) (stonesOf s) e
     go Sound k e = (refl, (cc))
     go (Refused why) k e = let z : _≡_ {A = ℕ} 0 1 = cc in absurd (omega arith)
 
--- a line, and those below it
-lines-from : (p : List ℕ) (w h y : ℕ) → y < h → cutsFrom p w (h - y) y ≡ placesOn y (lineCuts p (y * w) w) ++ cutsFrom p w (h - (y + 1)) (y + 1)
+-- what a scan of the picture comes to, by its case
+pub reached : {p : List ℕ} {w h y : ℕ} {scan : LineScanner} {a b : Cutting} → a ≡ b → Reaches p w h y scan a → Reaches p w h y scan b
+reached {p} {w} {h} {y} {scan} e C = subst (Reaches p w h y scan) e C
+
+-- the cuts of a picture are those of one that is dark at the same places
+cuts-alike : (p q : List ℕ) (w : ℕ) → ((base x : ℕ) → dark p base x ≡ dark q base x) → (n y : ℕ) → cutsFrom p w n y ≡ cutsFrom q w n y
 unfolding cutsFrom
-lines-from p w h y low = let left : h - y ≡ suc (h - (y + 1)) = omega arith in rw (left, add-one y)
+cuts-alike p q w alike zero y = refl
+cuts-alike p q w alike (suc n) y = rw (line-alike p q (y * w) (alike (y * w)) w, cuts-alike p q w alike n (suc y))
 
--- the lines that are passed over have no cut
-record Passes (p : List ℕ) (w n y to : ℕ) : Type 0 where
-  from : y ≤ to
-  at-most : to ≤ y + n
-  cuts : cutsFrom p w n y ≡ cutsFrom p w ((y + n) - to) to
+-- the first cut that is ahead of a scan, and the scan that goes on from it
+abbrev place : ℕ → LinePosition → Place
+place line at = record { line = line; cut = at }
 
-passes : (p : List ℕ) (w n y : ℕ) → Passes p w n y (nextLine p w n y)
-unfolding nextLine cutsFrom
-passes p w zero y = let none : (y + 0) - y ≡ 0 = omega arith in record { from = omega arith; at-most = omega arith; cuts = rw none }
-passes p w (suc n) y = go (some (lineCuts p (y * w) w)) refl (passes p w n (suc y))
-  where
-    go : (b : Bool) → some (lineCuts p (y * w) w) ≡ b → Passes p w n (suc y) (nextLine p w n (suc y)) → Passes p w (suc n) y (cond b y (nextLine p w n (suc y)))
-    go true e P = let all : (y + suc n) - y ≡ suc n = omega arith in record { from = omega arith; at-most = omega arith; cuts = rw all }
-    go false e P =
-        let bare : placesOn y (lineCuts p (y * w) w) ≡ [] = rw (none-on _ e) in
-        let same : y + suc n ≡ suc y + n = omega arith in
-        record { from = omega (arith, P .from); at-most = omega (arith, P .at-most); cuts = rw (bare, same, P .cuts) }
+record Met (p : List ℕ) (w h y : ℕ) (scan : LineScanner) (line : ℕ) (at : LinePosition) (next : LineScanner) : Type 0 where
+  low : line < h
+  on : OnLine w next
+  is : cutsAfter p w h y scan ≡ place line at ∷ cutsAfter p w h line next
 
-pub next-from : (p : List ℕ) (w n y : ℕ) {to : ℕ} → to ≡ nextLine p w n y → y ≤ to
-next-from p w n y e = omega (arith, e, passes p w n y .from)
-
--- down a picture: the lines below are still to be searched
+-- over a picture: the cuts ahead are still to be searched
 module _ (p0 : List ℕ) (w h : ℕ) (T0 : Table) where
-  pub record Down (p : List ℕ) (lent y : ℕ) (s : Marks) : Type 0 where
+  pub record Over (p : List ℕ) (lent y : ℕ) (scan : LineScanner) (s : Marks) : Type 0 where
     pub goes : Goes p0 w h p lent (s .table)
-    pub low : y ≤ h
+    pub low : y < h
     pub laid : Laid s
     pub going : outcome s ≡ found (stonesOf s)
+    pub on : OnLine w scan
+    pub each : (at : Place) → Mem at (cutsAfter p0 w h y scan) → Stands p0 w h at
     pub then : (f : Finding (List CapStone)) (q : List ℕ) (U : Table)
-        → Searches w h (cutsFrom p0 w (h - y) y) p (s .table) (stonesOf s) f q U → Searches w h (allCuts p0 w h) p0 T0 [] f q U
+        → Searches w h (cutsAfter p0 w h y scan) p (s .table) (stonesOf s) f q U → Searches w h (allCuts p0 w h) p0 T0 [] f q U
 
-pub down-begun : {p0 : List ℕ} {w h lent : ℕ} {s : Marks} → InWork p0 w h lent (s .table) → outcome s ≡ found [] → Laid s → Down p0 w h (s .table) p0 lent 0 s
-down-begun {p0} {w} {h} {lent} {s} W e laid =
-    let F = found-stones s [] e in
-    let all : h - 0 ≡ h = omega arith in
-    record {
-      goes = goes-still W (omega arith);
-      low = omega arith;
-      laid = laid;
-      going = F .0;
-      then = λ f q U S. rw (F .1, all) at S;
-    }
+module _ {p0 : List ℕ} {w h : ℕ} where
+  pub over-begun : {lent : ℕ} {s : Marks} {scan : LineScanner} → ((at : Place) → Mem at (allCuts p0 w h) → Stands p0 w h at) → InWork p0 w h lent (s .table) → outcome s ≡ found [] → Laid s → scan ≡ begun → Over p0 w h (s .table) p0 lent 0 scan s
+  over-begun {s = s} {scan = scan} each W none laid e =
+      let low : 0 < h = W .roomy .sized .some-height in
+      let whole : h - 0 ≡ h = omega arith in
+      let all : cutsAfter p0 w h 0 scan ≡ allCuts p0 w h = rw e (from-begun p0 w h 0 low ∙ ap (λ (n : ℕ). cutsFrom p0 w n 0) whole) in
+      let F = found-stones s [] none in
+      record {
+        goes = goes-still W (omega arith);
+        low = low;
+        laid = laid;
+        going = F .0;
+        on = rw e (begun-on w);
+        each = λ at m. each at (subst (Mem at) all m);
+        then = λ f q U S. rw (F .1, all) at S;
+      }
 
-module _ {p0 : List ℕ} {w h : ℕ} {T0 : Table} where
-  module _ {p : List ℕ} {lent y : ℕ} {s : Marks} (D : Down p0 w h T0 p lent y s) where
-    pub down-ends : h ≤ y → Searches w h (allCuts p0 w h) p0 T0 [] (outcome s) p (s .table)
-    unfolding cutsFrom
-    down-ends past = let none : h - y ≡ 0 = omega arith in rw (D .going) (D .then _ _ _ (rw none finished))
+  module _ {T0 : Table} {p : List ℕ} {lent y : ℕ} {scan : LineScanner} {s : Marks} (A : Over p0 w h T0 p lent y scan s) where
+    same-cuts : (z : ℕ) (t : LineScanner) → cutsAfter p0 w h z t ≡ cutsAfter p w h z t
+    same-cuts z t = rw (ahead-alike p0 p (z * w) (A .goes .alike (z * w)) w t, cuts-alike p0 p w (A .goes .alike) (h - (z + 1)) (z + 1))
 
-    module _ (low : y < h) {q : List ℕ} (r : Marks) (S : Searches w h (placesOn y (lineCuts p (y * w) w)) p (s .table) (stonesOf s) (outcome r) q (r .table)) where
-      -- the line's cuts are those of the first picture
-      first-cuts : Searches w h (placesOn y (lineCuts p0 (y * w) w)) p (s .table) (stonesOf s) (outcome r) q (r .table)
-      first-cuts = rw (line-alike p0 p (y * w) (D .goes .alike (y * w)) w) S
+    pub over-ends : Reaches p w h y scan Done → Searches w h (allCuts p0 w h) p0 T0 [] (outcome s) p (s .table)
+    over-ends (no-cut none) =
+        let left : cutsAfter p0 w h y scan ≡ [] = same-cuts y scan ∙ none in
+        rw (A .going) (A .then _ _ _ (rw left finished))
 
-      pub down-stops : (n : ℕ) → outcome r ≡ refused n → Searches w h (allCuts p0 w h) p0 T0 [] (outcome r) q (r .table)
-      down-stops n e = D .then _ _ _ (rw (lines-from p0 w h y low) (search-stops (cutsFrom p0 w (h - (y + 1)) (y + 1)) first-cuts e))
+    module _ {line : ℕ} {at : LinePosition} {next : LineScanner} where
+      met : Reaches p w h y scan (At line at next) → Met p0 w h y scan line at next
+      met (next-cut _ _ _ low on e) = record { low = low; on = on; is = same-cuts y scan ∙ e ∙ ap (λ (l : List Place). place line at ∷ l) (sym (same-cuts line next)) }
 
-      pub down-next : {room : ℕ} → lent ≤ room → Laid r → outcome r ≡ found (stonesOf r) → Down p0 w h T0 q room (y + 1) r
-      down-next more laid e =
-          record {
-            goes = goes-on (D .goes) (search-goes (D .goes .work) more (line-stands low) S);
-            low = omega arith;
-            laid = laid;
-            going = e;
-            then = λ f u U R. D .then f u U (rw (lines-from p0 w h y low) (search-on first-cuts e R));
-          }
+      pub over-less : Reaches p w h y scan (At line at next) → length (cutsAfter p0 w h line next) < length (cutsAfter p0 w h y scan)
+      over-less C = rw (met C .is) (omega arith)
 
-    -- from there on to the next line that has a cut
-    pub down-passes : {to : ℕ} → to ≡ nextLine p w (h - y) y → Down p0 w h T0 p lent to s
-    down-passes {to} e =
-        let is : to ≡ nextLine p0 w (h - y) y = e ∙ sym (next-alike p0 p w (D .goes .alike) (h - y) y) in
-        let P : Passes p0 w (h - y) y to = rw is (passes p0 w (h - y) y) in
-        let below : (y + (h - y)) - to ≡ h - to = omega (arith, D .low) in
-        record {
-          goes = D .goes;
-          low = omega (arith, D .low, P .at-most);
-          laid = D .laid;
-          going = D .going;
-          then = λ f q U S. D .then f q U (rw (P .cuts, below) S);
-        }
+      pub over-asks : Reaches p w h y scan (At line at next) → AtCut p w h lent (s .table) line at
+      over-asks C =
+          let here : Mem (place line at) (cutsAfter p0 w h y scan) = rw (met C .is) (inl refl) in
+          record { work = A .goes .work; in-y = met C .low; columns = still-dark (A .goes .alike (line * w)) (A .each (place line at) here .columns) }
+
+      module _ {q : List ℕ} {r : Marks} (C : Reaches p w h y scan (At line at next)) (K : Takes p w h line at s q r) where
+        -- the cut is tried after as many stones as there are
+        counted : {f : Finding (List CapStone)} → Tries p w h line at (s .table) (s .n) f q (r .table) → Tries p w h line at (s .table) (length (stonesOf s)) f q (r .table)
+        counted {f} X = subst (λ (n : ℕ). Tries p w h line at (s .table) n f q (r .table)) (going-count (A .laid) (A .going)) X
+
+        pub over-stops : (n : ℕ) → outcome r ≡ refused n → Searches w h (allCuts p0 w h) p0 T0 [] (outcome r) q (r .table)
+        unfolding added
+        over-stops n e = rw e (A .then _ _ _ (rw (met C .is) (go (K .finding) (K .tries) (sym (K .is) ∙ e))))
+          where
+            go : (f : Finding (List CapStone)) → Tries p w h line at (s .table) (s .n) f q (r .table) → added (stonesOf s) f ≡ refused n → Searches w h (place line at ∷ cutsAfter p0 w h line next) p (s .table) (stonesOf s) (refused n) q (r .table)
+            go (found new) X g = let z : _≡_ {A = ℕ} 0 1 = cc in absurd (omega arith)
+            go (refused k) X g = let same : k ≡ n = cc in rw (← same) (stopped (counted X))
+
+        pub over-next : {room : ℕ} → lent ≤ room → outcome r ≡ found (stonesOf r) → Over p0 w h T0 q room line next r
+        unfolding added
+        over-next more e =
+            record {
+              goes = goes-on (A .goes) (tries-go (over-asks C) more (K .tries));
+              low = met C .low;
+              laid = K .laid;
+              going = e;
+              on = met C .on;
+              each = λ o m. A .each o (rw (met C .is) (inr m));
+              then = λ f u U S. A .then f u U (rw (met C .is) (go (K .finding) (K .tries) (sym (K .is) ∙ e) S));
+            }
+          where
+            go : (f : Finding (List CapStone)) → Tries p w h line at (s .table) (s .n) f q (r .table) → added (stonesOf s) f ≡ found (stonesOf r) → {g : Finding (List CapStone)} {u : List ℕ} {U : Table}
+                → Searches w h (cutsAfter p0 w h line next) q (r .table) (stonesOf r) g u U → Searches w h (place line at ∷ cutsAfter p0 w h line next) p (s .table) (stonesOf s) g u U
+            go (found new) X e {g} {u} {U} S =
+                let same : stonesOf r ≡ stonesOf s ++ new = cc in
+                tried (counted X) (subst (λ (v : List CapStone). Searches w h (cutsAfter p0 w h line next) q (r .table) v g u U) same S)
+            go (refused n) X e S = let z : _≡_ {A = ℕ} 0 1 = cc in absurd (omega arith)

@@ -12,7 +12,8 @@ use Rattle.table.specs.declared.Table.{Table}
 use Rattle.scanner.specs.Cuts.{lineCuts}
 use Rattle.capstones.specs.declared.CapStone.{CapStone}
 use Rattle.marks.specs.InWork.{InWork}
-use Rattle.marks.specs.Search.{Place, placesOn, cutsFrom, allCuts, Searches, outcome, countIn, Laid}
+use Rattle.marks.specs.Cuts.{Place, placesOn, cutsFrom, allCuts}
+use Rattle.marks.specs.Search.{Searches, outcome, countIn, Laid}
 use Rattle.marks.specs.declared.search.Marks.{Marks}
 use Rattle.marks.proofs.Work.{Goes}
 use Rattle.marks.proofs.Searching.{Stands, line-stands, search-goes}

@@ -1,19 +1,19 @@
 -- The search for marks, cut by cut: document 01, "Marks". Definitions alone.
-use Prim.Native.Nat.{ℕ, zero, suc, _-_, _*_, _≤_, _<_}
+use Prim.Native.Nat.{ℕ, _-_, _≤_}
 use mathlib.Core.Path.{_≡_}
-use mathlib.Core.Bool.{Bool, true, false}
-use mathlib.Core.List.{List, [], _∷_, _++_, map}
+use mathlib.Core.Bool.{true, false}
+use mathlib.Core.List.{List, [], _∷_, _++_}
 use lib.ListN.{length, take, replicate}
 use Rattle.refusals.specs.Limits.{mostStones}
 use Rattle.refusals.specs.Finding.{Finding, found, refused, refusedBy}
 use Rattle.picture.specs.declared.Verdict.{Verdict}
 use Rattle.picture.specs.declared.Verdict.the-variants.{Sound, Refused}
 use Rattle.table.specs.declared.Table.{Table}
-use Rattle.scanner.specs.Cuts.{lineCuts}
 use Rattle.scanner.specs.declared.LinePosition.{LinePosition}
 use Rattle.capstones.specs.Blank.{noStone}
 use Rattle.capstones.specs.declared.CapStone.{CapStone}
 use Rattle.regions.specs.Found.{Answer}
+pub use Rattle.marks.specs.Cuts.{Place, placesOn, cutsFrom, allCuts}
 use Rattle.marks.specs.Ring.{Testable, passes, Tests}
 use Rattle.marks.specs.Stone.{Ringed, Creates}
 use Rattle.marks.specs.declared.search.Marks.{Marks}
@@ -33,23 +33,6 @@ pub data Marked (m : List ℕ) (w h y : ℕ) (cut : LinePosition) (ring stone : 
   no-mark : passes m w y cut ring stone ≡ false → f ≡ found [] → q ≡ m → Marked m w h y cut ring stone n f q
   a-mark : passes m w y cut ring stone ≡ true → Creates m w h (cut .right) y n f q → Marked m w h y cut ring stone n f q
 
--- a cut, and the line that it is on
-pub record Place : Type 0 where
-  pub line : ℕ
-  pub cut : LinePosition
-
-abbrev pub placesOn : ℕ → List LinePosition → List Place
-placesOn y cuts = map (λ (cut : LinePosition). record { line = y; cut = cut }) cuts
-
--- the cuts of n lines from line y on, from top to bottom, and on each line from left to right
-unfoldable pub cutsFrom : List ℕ → ℕ → ℕ → ℕ → List Place
-cutsFrom p w zero y = []
-cutsFrom p w (suc n) y = placesOn y (lineCuts p (y * w) w) ++ cutsFrom p w n (suc y)
-
--- all cuts of a picture
-abbrev pub allCuts : List ℕ → ℕ → ℕ → List Place
-allCuts p w h = cutsFrom p w h 0
-
 -- cuts are tried one after the other, with the stones l found before; the first refusal ends it
 pub data Searches (w h : ℕ) : List Place → List ℕ → Table → List CapStone → Finding (List CapStone) → List ℕ → Table → Type 0 where
   finished : {p : List ℕ} {T : Table} {l : List CapStone} → Searches w h [] p T l (found l) p T
@@ -66,11 +49,6 @@ stonesOf s = take (s .n) (s .stones)
 unfoldable pub told : Verdict → List CapStone → Finding (List CapStone)
 told Sound l = found l
 told (Refused why) l = refusedBy why
-
--- whether nothing is refused
-unfoldable pub goes : Verdict → Bool
-goes Sound = true
-goes (Refused why) = false
 
 abbrev pub outcome : Marks → Finding (List CapStone)
 outcome s = told (s .verdict) (stonesOf s)

@@ -1,5 +1,6 @@
 // Marks: the finder patterns of a picture, found line by line (detect.rs).
 mod bitmap;
+mod cuts;
 mod ring;
 mod search;
 mod stone;
