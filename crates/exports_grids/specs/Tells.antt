@@ -1,7 +1,7 @@
 -- What a call that fits a group of stones tells. Definitions alone.
 use Prim.Native.Nat.{ℕ, _≤_, _<_}
 use mathlib.Core.Path.{_≡_}
-use mathlib.Core.List.{List, [], _∷_}
+use mathlib.Core.List.{List}
 use mathlib.Core.Logic.{_⊎_}
 use lib.IntN.{ℤ}
 use lib.Ieee.{Float}
@@ -14,12 +14,8 @@ use Rattle.grids.specs.declared.Fit.the-variants.{Grid, NoGrid, Refused}
 use Rattle.fit.specs.Fit.{FitPost}
 use Rattle.told_places.specs.Lent.{tableOf}
 use Rattle.told_places.specs.Put.{putAt}
-use Rattle.told_places.specs.Values.{floatsOf, allEntries}
+use Rattle.told_places.specs.Values.{floatsOf, countedPut}
 use Rattle.exports_grids.specs.Lent.{groupOf}
-
--- a table, how many entries it has, and a grid's size
-abbrev pub tablePut : Table → ℕ → List ℕ → List ℕ
-tablePut T size s = putAt (allEntries T s) 1004 (T .n ∷ size ∷ [])
 
 -- what the call returns: 0 with a grid, 255 with none, else a refusal's number
 unfoldable pub statusOf : Fit → ℕ
@@ -29,8 +25,8 @@ statusOf (Refused why) = numberOf why
 
 -- the numbers after it: the table that fitting left, and the grid's size or 0; a refusal leaves them as they were
 unfoldable pub countsAfter : Fit → Table → List ℕ → List ℕ
-countsAfter (Grid g) T s = tablePut T (g .size) s
-countsAfter NoGrid T s = tablePut T 0 s
+countsAfter (Grid g) T s = countedPut T (g .size) s
+countsAfter NoGrid T s = countedPut T 0 s
 countsAfter (Refused why) T s = s
 
 -- the floats after it: a grid's coefficients, else as they were

@@ -10,8 +10,8 @@ use Rattle.capstones.specs.Blank.{noStone}
 use Rattle.capstones.specs.declared.CapStone.{CapStone}
 use Rattle.marks.specs.OfBitmap.{OfBitmap}
 use Rattle.marks.specs.declared.search.Marks.{Marks}
-use Rattle.told_places.specs.Put.{putAt, putEach}
-use Rattle.told_places.specs.Values.{floatsOf, allEntries, statusOf}
+use Rattle.told_places.specs.Put.{putEach}
+use Rattle.told_places.specs.Values.{floatsOf, countedPut, statusOf}
 
 -- a stone's four corners and its centre, x before y
 abbrev pub placesOf : CapStone → List ℤ
@@ -34,4 +34,4 @@ pub data Tells (pic : List ℕ) (width height lent : ℕ) (pic′ : List ℕ) (p
   -- with too few places nothing is searched
   short : (length places < 640) ⊎ (length floats < 512) ⊎ (length counts < 1006) → pic′ ≡ pic → places′ ≡ places → floats′ ≡ floats → counts′ ≡ counts → number ≡ 3 → Tells pic width height lent pic′ places places′ floats floats′ counts counts′ number
   -- else the marks are told: the stones, the table, how many entries and stones there are, and the verdict
-  told : 640 ≤ length places → 512 ≤ length floats → 1006 ≤ length counts → (r : Marks) → OfBitmap pic width height lent pic′ r → places′ ≡ allPlaces (r .stones) places → floats′ ≡ allFloats (r .stones) floats → counts′ ≡ putAt (allEntries (r .table) counts) 1004 (r .table .n ∷ r .n ∷ []) → number ≡ statusOf (r .verdict) → Tells pic width height lent pic′ places places′ floats floats′ counts counts′ number
+  told : 640 ≤ length places → 512 ≤ length floats → 1006 ≤ length counts → (r : Marks) → OfBitmap pic width height lent pic′ r → places′ ≡ allPlaces (r .stones) places → floats′ ≡ allFloats (r .stones) floats → counts′ ≡ countedPut (r .table) (r .n) counts → number ≡ statusOf (r .verdict) → Tells pic width height lent pic′ places places′ floats floats′ counts counts′ number

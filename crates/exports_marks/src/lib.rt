@@ -4,23 +4,10 @@ mod stones;
 
 use crate::stones::put_stones;
 use marks::search_bitmap;
-use told_places::entries::put_entries;
+use told_places::entries::put_counted;
 use told_places::status_of;
-ghost use mathlib.Core.Path.{_≡_};
-ghost use mathlib.Core.List.{[], _∷_};
-ghost use Prim.Native.Nat.{_≤_};
 ghost use lib.ListN.{length};
-ghost use Rattle.told_places.specs.Put.{putAt};
 ghost use Rattle.exports_marks.specs.Tells.{Tells};
-
-// How many entries and how many stones there are.
-fn put_counts(entries: usize, stones: usize, out: &mut [usize])
-    requires { ⌜ 1006 ≤ length (now out) ⌝ }
-    ensures { λ _. ⌜ now (out .exit) ≡ putAt (now (out .entry)) 1004 (entries ∷ stones ∷ []) ⌝ }
-{
-    out[1004] = entries;
-    out[1005] = stones;
-}
 
 // Finds all marks of a bitmap, from an empty region table: 0, or the refusal 1, 2, 3, 4, 11, 12 or 13. The stack has an entry for each
 // pixel. The picture keeps the paint, also after 11, 12 and 13. Stone k stands as five points from places[10 k] on, its corners and its
@@ -52,8 +39,7 @@ pub extern "C" fn elmetzhur_capstones(
     let stones = marks.stones;
     let table = marks.table;
     put_stones(stones, places, floats);
-    put_entries(table, counts);
-    put_counts(table.n, marks.n, counts);
+    put_counted(table, marks.n, counts);
     let verdict = marks.verdict;
     status_of(verdict)
 }

@@ -28,7 +28,11 @@ tableNumbers T k = entryNumbers (getD (T .age) k 0) (entryOf T k)
 abbrev pub allEntries : Table → List ℕ → List ℕ
 allEntries T s = putEach (tableNumbers T) 4 251 0 s
 
--- a table: its places, how many entries it has, and two numbers behind that
+-- a table: its places, how many entries it has, and a number behind that
+abbrev pub countedPut : Table → ℕ → List ℕ → List ℕ
+countedPut T count s = putAt (allEntries T s) 1004 (T .n ∷ count ∷ [])
+
+-- the same with two numbers behind it
 abbrev pub tablePut : Table → ℕ → ℕ → List ℕ → List ℕ
 tablePut T first second s = putAt (allEntries T s) 1004 (T .n ∷ first ∷ second ∷ [])
 

@@ -6,7 +6,7 @@ ghost use mathlib.Core.List.{[], _∷_};
 ghost use Prim.Native.Nat.{_+_, _≤_};
 ghost use lib.ListN.{length};
 ghost use Rattle.told_places.specs.Put.{putAt};
-ghost use Rattle.told_places.specs.Values.{entryNumbers, allEntries, tablePut};
+ghost use Rattle.told_places.specs.Values.{entryNumbers, allEntries, countedPut, tablePut};
 
 // A number by age, and an entry, from a place on.
 fn put_entry(age: u8, entry: Entry, at: usize, out: &mut [usize])
@@ -33,14 +33,22 @@ pub fn put_entries(table: Table, out: &mut [usize])
     }
 }
 
-// How many entries there are, and two numbers more.
-fn put_counts(entries: usize, first: usize, second: usize, out: &mut [usize])
-    requires { ⌜ 1007 ≤ length (now out) ⌝ }
-    ensures { λ _. ⌜ now (out .exit) ≡ putAt (now (out .entry)) 1004 (entries ∷ first ∷ second ∷ []) ⌝ }
+// How many entries there are, and another count.
+fn put_counts(entries: usize, count: usize, out: &mut [usize])
+    requires { ⌜ 1006 ≤ length (now out) ⌝ }
+    ensures { λ _. ⌜ now (out .exit) ≡ putAt (now (out .entry)) 1004 (entries ∷ count ∷ []) ⌝ }
 {
     out[1004] = entries;
-    out[1005] = first;
-    out[1006] = second;
+    out[1005] = count;
+}
+
+// A table, and a number behind it.
+pub fn put_counted(table: Table, count: usize, out: &mut [usize])
+    requires { ⌜ 1006 ≤ length (now out) ⌝ }
+    ensures { λ _. ⌜ now (out .exit) ≡ countedPut table count (now (out .entry)) ⌝ }
+{
+    put_entries(table, out);
+    put_counts(table.n, count, out);
 }
 
 // A table, and two numbers behind it.
@@ -48,6 +56,6 @@ pub fn put_table(table: Table, first: usize, second: usize, out: &mut [usize])
     requires { ⌜ 1007 ≤ length (now out) ⌝ }
     ensures { λ _. ⌜ now (out .exit) ≡ tablePut table first second (now (out .entry)) ⌝ }
 {
-    put_entries(table, out);
-    put_counts(table.n, first, second, out);
+    put_counted(table, first, out);
+    out[1006] = second;
 }

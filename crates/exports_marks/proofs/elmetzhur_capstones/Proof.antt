@@ -1,10 +1,7 @@
 -- `elmetzhur_capstones` searches once there are places for what it tells, and tells it. Assumes nothing.
-use mathlib.Core.Path.{refl, ap, _∙_}
-use mathlib.Core.List.{List, [], _∷_}
+use mathlib.Core.Path.{refl}
 use mathlib.Core.Logic.{inl, inr}
-use Prim.Native.Nat.{ℕ}
 use borrow.Author.Needs.{needs}
-use Rattle.told_places.specs.Put.{putAt}
 use Rattle.exports_marks.specs.Tells.{short, told}
 use Rattle.exports_marks.proofs.elmetzhur_capstones.Statement.{statement}
 use Rattle.exports_marks.proofs.elmetzhur_capstones.Tie as tie
@@ -24,11 +21,8 @@ search-bitmap-requires c κs = search needs
 put-stones-requires : tie.Need-put-stones-requires
 put-stones-requires c κs = search needs
 
-put-entries-requires : tie.Need-put-entries-requires
-put-entries-requires c κs = search needs
-
-put-counts-requires : tie.Need-put-counts-requires
-put-counts-requires c κs = search needs
+put-counted-requires : tie.Need-put-counted-requires
+put-counted-requires c κs = search needs
 
 status-of-requires : tie.Need-status-of-requires
 status-of-requires c κs = search needs
@@ -51,8 +45,7 @@ same-length-5 c = search needs
 returns-4 : tie.Need-returns-4
 returns-4 c =
     let counts = c .before .before .before in
-    let entries = counts .before .before .before .before in
-    let stones = entries .before .before .before .before .before in
+    let stones = counts .before .before .before .before .before in
     let found = stones .before .before .before .before .before .before .before .before .before in
     let third = found .before .before .before in
     let r = found .search-bitmap .result in
@@ -64,7 +57,7 @@ returns-4 c =
     (found .search-bitmap .ensures)
     (stones .put-stones .ensures .0)
     (stones .put-stones .ensures .1)
-    (counts .put-counts .ensures ∙ ap (λ (s : List ℕ). putAt s 1004 (r .table .n ∷ r .n ∷ [])) (entries .put-entries .ensures))
+    (counts .put-counted .ensures)
     (c .status-of .ensures)
 
 pub elmetzhur-capstones-spec : {M : Type 1} → statement M
@@ -76,8 +69,7 @@ elmetzhur-capstones-spec =
     returns-3
     search-bitmap-requires
     put-stones-requires
-    put-entries-requires
-    put-counts-requires
+    put-counted-requires
     status-of-requires
     same-length
     same-length-2

@@ -1,7 +1,5 @@
--- `put_counts` writes three numbers behind the entries. Assumes nothing.
-use native.Mathlib.Omega.{arith}
+-- `put_counts` writes two numbers behind the entries. Assumes nothing.
 use mathlib.Core.Path.{refl}
-use lib.ListN.{length-set}
 use borrow.Author.Needs.{needs}
 use Rattle.told_places.specs.Put.{putAt}
 use Rattle.told_places.proofs.entries.put_counts.Statement.{statement}
@@ -11,10 +9,7 @@ slice-write-out : tie.Need-slice-write-out
 slice-write-out c = search needs
 
 slice-write-out-2 : tie.Need-slice-write-out-2
-slice-write-out-2 c = simp length-set (omega arith)
-
-slice-write-out-3 : tie.Need-slice-write-out-3
-slice-write-out-3 c = simp length-set (omega arith)
+slice-write-out-2 c = search needs
 
 same-length : tie.Need-same-length
 same-length c = search needs
@@ -24,4 +19,4 @@ unfolding putAt
 returns c = refl
 
 pub put-counts-spec : {M : Type 1} → statement M
-put-counts-spec = tie.close (tie.spec slice-write-out slice-write-out-2 slice-write-out-3 same-length returns)
+put-counts-spec = tie.close (tie.spec slice-write-out slice-write-out-2 same-length returns)
