@@ -16,8 +16,9 @@ use Rattle.points.specs.declared.Point.{Point}
 use Rattle.sizes.proofs.Size.{size-neg, size-dot}
 use Rattle.geometry.specs.declared.Perspective.{Perspective}
 use Rattle.corners.specs.Scores.{lineFrom}
+use Rattle.corners.proofs.Small.{way-direction}
 use Rattle.groups.specs.Side.{sideOf}
-use Rattle.groups.proofs.Beside.{way-direction, side-is}
+use Rattle.groups.proofs.Beside.{side-is}
 use Rattle.alignment.specs.Estimate.{meaning, areaOf, estimateBy, estimateBetween, estimateOf}
 use Rattle.alignment.specs.declared.estimate.Estimate.{Estimate}
 use Rattle.alignment.specs.declared.estimate.Estimate.the-variants.{Size, Refused}

@@ -1,6 +1,6 @@
 // The size that the alignment pattern is taken to have (identify/grid.rs, `find_alignment_pattern`).
+use corners::line_from;
 use geometry::Perspective;
-use groups::line_from;
 use groups::side_of;
 use points::Point;
 use refusals::Refusal;

@@ -1,6 +1,6 @@
 use points::Point;
 ghost use mathlib.Core.Path.{_≡_};
-ghost use Rattle.points.specs.Range.{Within};
+ghost use Rattle.points.specs.Range.{Within, Near};
 ghost use Rattle.corners.specs.Scores.{Direction, distanceOf, alongOf, acrossOf, leftOf, lineFrom};
 
 // The square of the distance between p and q.
@@ -39,7 +39,7 @@ pub fn left_of(d: Point, p: Point) -> i32
 
 // The direction that leads from p to q.
 pub fn line_from(p: Point, q: Point) -> Point
-    requires { ⌜ Within p ⌝ ∗ ⌜ Within q ⌝ }
+    requires { ⌜ Near p ⌝ ∗ ⌜ Near q ⌝ }
     ensures { λ r. ⌜ r ≡ lineFrom p q ⌝ }
 {
     Point {

@@ -1,31 +1,23 @@
 -- Sides of a line: no step towards them leaves the range of an i32, and in the opposite direction they are opposite. Assumes nothing.
-use Prim.Native.Nat.{_+_, _*_, _^_, _≤_, _<_}
+use Prim.Native.Nat.{_+_, _*_, _^_, _<_}
 use native.Mathlib.Nat.{lt-of-le-of-lt}
 use native.Mathlib.Omega.{arith}
 use mathlib.Core.Path.{_≡_, refl}
 use mathlib.Core.List.{[], _∷_}
 use lib.Dec.{lit<}
 use lib.IntN.{ℤ, natAbs, negℤ, _+ℤ_, _-ℤ_, _*ℤ_}
-use Rattle.refusals.specs.Limits.{farthest}
 use Rattle.points.specs.declared.Point.{Point}
-use Rattle.points.specs.Range.{Inside, Within, Near}
-use Rattle.sizes.proofs.Size.{size-sub, size-neg, products}
+use Rattle.sizes.proofs.Size.{size-neg, products}
 use Rattle.sizes.proofs.Algebra.{var, ⊝, _⊕_, _⊖_, _⊗_, same-terms}
 use Rattle.corners.specs.Scores.{Span, Direction, acrossOf, lineFrom}
 use Rattle.corners.proofs.Signed.{back, is-own, is-back}
 use Rattle.groups.specs.Side.{sideOf, reversed}
 
--- a coordinate that a stated point may have, and a difference of two, as the code reads them
-pub near-back : (a : ℤ) → natAbs a ≤ farthest → back a ≡ a
-near-back a h = is-back (is-own h (lit< tt))
-
+-- a difference of two coordinates that a stated point may have, as the code reads it
 pub span-back : {a : ℤ} → Span a → back a ≡ a
 span-back S = is-back (is-own (S .low) (lit< tt))
 
--- such numbers are low enough for `diff`, `opposite` and `cross`, as a search looks for it
-pub apart-low : (a b : ℤ) → natAbs a ≤ farthest → natAbs b ≤ farthest → natAbs (back a) + natAbs (back b) < 2 ^ 31
-apart-low a b h k = rw (near-back a h, near-back b k) (omega arith)
-
+-- such numbers are low enough for `opposite` and `cross`, as a search looks for it
 pub opposite-low : (a : ℤ) → Span a → natAbs (back a) < 2 ^ 31
 opposite-low a S = rw (span-back S) (let h = S .low in omega arith)
 
@@ -34,21 +26,7 @@ cross-low a x b y A X B Y =
     rw (span-back A, span-back X, span-back B, span-back Y)
     (lt-of-le-of-lt (products 20000 20000 20000 20000 (A .low) (X .low) (B .low) (Y .low)) (lit< tt))
 
--- a pixel of a picture is no further out than a stated point may be
-pub within-near : {p : Point} → Within p → Near p
-within-near {p} P = record { x-low = low (P .x); y-low = low (P .y) }
-  where
-    low : {z : ℤ} → Inside z → natAbs z ≤ farthest
-    low I = let h = I .low in rw (I .is) (omega arith)
-
--- the way between two such points is a direction, and so is the way back
-pub way-direction : {p q : Point} → Near p → Near q → Direction (lineFrom p q)
-unfolding lineFrom
-way-direction {p} {q} P Q =
-    let x = size-sub (q .x) (p .x) in
-    let y = size-sub (q .y) (p .y) in
-    record { x = record { low = omega (arith, P .x-low, Q .x-low) }; y = record { low = omega (arith, P .y-low, Q .y-low) } }
-
+-- the opposite of a direction is one, too
 pub reversed-direction : {d : Point} → Direction d → Direction (reversed d)
 unfolding reversed
 reversed-direction {d} D =

@@ -12,14 +12,13 @@ use Rattle.capstones.specs.declared.CapStone.{CapStone}
 use Rattle.capstones.specs.Blank.{noSight}
 use Rattle.corners.specs.Rows.{pointAt}
 use Rattle.corners.specs.Scores.{acrossOf, lineFrom}
-use Rattle.corners.proofs.Small.{point-within}
+use Rattle.corners.proofs.Small.{point-within, within-near}
 use Rattle.groups.specs.Side.{sideOf, reversed}
 use Rattle.groups.specs.Group.{Centred, Framed, Cornered}
 use Rattle.groups.specs.Orient.{oriented}
 use Rattle.groups.specs.Turn.{turn, lefter, turnedBy, sight, seen, sighted, rotatedOf}
 use Rattle.groups.specs.Rotate.{gathered, rotatedGroup}
 use Rattle.groups.specs.declared.CapStoneGroup.{CapStoneGroup}
-use Rattle.groups.proofs.Beside.{within-near}
 
 -- corners 1, 2 and 3 are a triangle's, and corner 0 lies on its edge
 abbrev pub triangle : Point → CapStone

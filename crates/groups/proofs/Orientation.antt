@@ -9,6 +9,7 @@ use Rattle.points.specs.Range.{Near}
 use Rattle.points.specs.declared.Point.{Point}
 use Rattle.capstones.specs.declared.CapStone.{CapStone}
 use Rattle.corners.specs.Scores.{Direction, lineFrom}
+use Rattle.corners.proofs.Small.{way-direction}
 use Rattle.groups.specs.Side.{sideOf, reversed}
 use Rattle.groups.specs.Group.{Centred, Cornered}
 use Rattle.groups.specs.Orient.{swapped, oriented}
@@ -16,7 +17,7 @@ use Rattle.groups.specs.Turn.{turnedBy, sighted, rotatedOf}
 use Rattle.groups.specs.Rotate.{Turnable}
 use Rattle.groups.specs.declared.CapStoneGroup.{CapStoneGroup}
 use Rattle.groups.specs.declared.Oriented.{Oriented}
-use Rattle.groups.proofs.Beside.{side-reversed, line-reversed, either-end, way-direction, reversed-direction}
+use Rattle.groups.proofs.Beside.{side-reversed, line-reversed, either-end, reversed-direction}
 
 -- the opposite of what lies above 0 does not
 not-above : (z : ℤ) → pos 0 <ℤ z → negℤ z ≤ℤ pos 0

@@ -9,7 +9,6 @@ mod turning;
 
 pub use orienting::orient;
 pub use rotating::rotate_group;
-pub use sides::line_from;
 pub use sides::side_of;
 pub use turning::rotate_capstone;
 

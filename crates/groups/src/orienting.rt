@@ -1,9 +1,9 @@
 // A group put in order: the second stone lies to the left of the line from the first to the third.
 use crate::CapStoneGroup;
 use crate::Oriented;
-use crate::sides::line_from;
 use crate::sides::reversed;
 use crate::sides::side_of;
+use corners::line_from;
 ghost use mathlib.Core.Path.{_≡_};
 ghost use Rattle.groups.specs.Group.{Centred};
 ghost use Rattle.groups.specs.Orient.{oriented};

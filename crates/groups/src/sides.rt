@@ -1,22 +1,12 @@
 // On which side of a line a point lies.
+use corners::line_from;
 use points::Point;
 use sizes::cross;
-use sizes::diff;
 use sizes::opposite;
 ghost use mathlib.Core.Path.{_≡_};
 ghost use Rattle.points.specs.Range.{Near};
-ghost use Rattle.corners.specs.Scores.{Direction, lineFrom};
+ghost use Rattle.corners.specs.Scores.{Direction};
 ghost use Rattle.groups.specs.Side.{sideOf, reversed};
-
-// The direction that leads from p to q.
-pub fn line_from(p: Point, q: Point) -> Point
-    requires { ⌜ Near p ⌝ ∗ ⌜ Near q ⌝ }
-    ensures { λ r. ⌜ r ≡ lineFrom p q ⌝ }
-{
-    let x = diff(q.x, p.x);
-    let y = diff(q.y, p.y);
-    Point { x: x, y: y }
-}
 
 // The opposite direction.
 pub fn reversed(d: Point) -> Point

@@ -6,8 +6,8 @@ use mir.Val.{toZ, ofZ}
 use borrow.Author.Needs.{needs}
 use Rattle.sizes.proofs.Size.{read-back}
 use Rattle.corners.specs.Scores.{Direction, lineFrom}
+use Rattle.corners.proofs.Small.{way-direction}
 use Rattle.groups.specs.Side.{sideOf}
-use Rattle.groups.proofs.Beside.{way-direction}
 use Rattle.alignment.proofs.Areas.{area-is, area-low}
 use Rattle.alignment.proofs.estimate.area.Statement.{statement}
 use Rattle.alignment.proofs.estimate.area.Tie as tie

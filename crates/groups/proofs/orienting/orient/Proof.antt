@@ -3,8 +3,8 @@ use borrow.Author.Needs.{needs}
 use mathlib.Core.Path.{sym, subst}
 use Rattle.sizes.proofs.Size.{read-back}
 use Rattle.corners.specs.Scores.{Direction}
+use Rattle.corners.proofs.Small.{way-direction}
 use Rattle.groups.specs.Orient.{oriented}
-use Rattle.groups.proofs.Beside.{way-direction}
 use Rattle.groups.proofs.orienting.orient.Statement.{statement}
 use Rattle.groups.proofs.orienting.orient.Tie as tie
 

@@ -3,8 +3,9 @@ use borrow.Author.Needs.{needs}
 use mathlib.Core.Path.{sym, subst}
 use Rattle.sizes.proofs.Size.{read-back}
 use Rattle.corners.specs.Scores.{Direction, acrossOf}
+use Rattle.corners.proofs.Small.{way-direction}
 use Rattle.groups.specs.Side.{sideOf}
-use Rattle.groups.proofs.Beside.{span-back, cross-low, way-direction}
+use Rattle.groups.proofs.Beside.{span-back, cross-low}
 use Rattle.groups.proofs.sides.side_of.Statement.{statement}
 use Rattle.groups.proofs.sides.side_of.Tie as tie
 

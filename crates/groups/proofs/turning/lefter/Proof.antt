@@ -1,7 +1,7 @@
 -- `lefter` compares the sides of two corners 0. Assumes nothing.
 use Rattle.sizes.proofs.Size.{read-back}
+use Rattle.corners.proofs.Small.{within-near}
 use Rattle.groups.specs.Turn.{lefter}
-use Rattle.groups.proofs.Beside.{within-near}
 use Rattle.groups.proofs.turning.lefter.Statement.{statement}
 use Rattle.groups.proofs.turning.lefter.Tie as tie
 

@@ -5,15 +5,15 @@ use Rattle.points.specs.declared.Point.{Point}
 use Rattle.corners.specs.Scores.{Direction, alongOf, acrossOf, behindOf, leftOf}
 use Rattle.corners.specs.Finders.{allCornersFrom}
 use Rattle.corners.proofs.Signed.{Is, is-fits, is-back, is-opposite}
-use Rattle.corners.proofs.Small.{is-along, is-across, line-direction}
+use Rattle.corners.proofs.Small.{is-along, is-across, within-near, way-direction}
 use Rattle.corners.proofs.all_corners.AllCornerFinder.new.Statement.{statement}
 use Rattle.corners.proofs.all_corners.AllCornerFinder.new.Tie as tie
 
 line-from-requires : tie.Need-line-from-requires
-line-from-requires c κs = search needs
+line-from-requires c κs = (within-near (c .pre .0), within-near (c .pre .1))
 
 direction : (c : tie.After-line-from) → Direction (c .line-from .result)
-direction c = rw (c .line-from .ensures) (line-direction (c .before .pre .0) (c .before .pre .1))
+direction c = rw (c .line-from .ensures) (way-direction (within-near (c .before .pre .0)) (within-near (c .before .pre .1)))
 
 along-requires : tie.Need-along-requires
 along-requires c κs = (direction c, c .before .pre .0)
