@@ -3,9 +3,9 @@ use Prim.Native.Nat.{ℕ, _<_}
 use native.Mathlib.Omega.{arith}
 use mathlib.Core.Path.{_≡_, refl, sym, ap, _∙_}
 use mathlib.Core.List.{List}
-use mathlib.Core.Logic.{_↔_}
 use lib.ListN.{length}
 use Rattle.pieces.specs.Picture.{px}
+pub use Rattle.pieces.specs.Picture.{SameWhite}
 use Rattle.pieces.specs.Paint.{Paints}
 use Rattle.pieces.proofs.Chains.{last-of}
 use Rattle.table.specs.declared.Entry.{Entry}
@@ -18,10 +18,7 @@ use Rattle.regions.specs.Lookup.{givenUp, FilledBack, in-paint, out-of-paint, L
 use Rattle.regions.proofs.Twice.{measured-inside}
 use Rattle.regions.proofs.Unique.{back-length}
 
--- q is white in the same pixels as p
-abbrev pub SameWhite : ℕ → ℕ → List ℕ → List ℕ → Type 0
-SameWhite w h p q = (x y : ℕ) → x < w → y < h → (px p w x y ≡ 0) ↔ (px q w x y ≡ 0)
-
+-- a picture that stays as it was, and one that is worked on twice
 still-white : (w h : ℕ) {p q : List ℕ} → q ≡ p → SameWhite w h p q
 still-white w h {p} {q} e x y hx hy = let s : px q w x y ≡ px p w x y = ap (λ (v : List ℕ). px v w x y) e in ((λ z. s ∙ z), (λ z. sym s ∙ z))
 

@@ -1,12 +1,10 @@
 -- The fitness of a perspective for a grid: how far a picture shows the expected cells as they should be. Definitions alone.
 use Prim.Native.Nat.{ℕ, _+_, _≤_, _<_}
-use mathlib.Core.Path.{_≡_}
 use mathlib.Core.List.{List}
-use mathlib.Core.Logic.{_↔_}
 use lib.IntN.{ℤ}
 use Rattle.refusals.specs.Finding.{Finding}
 use Rattle.geometry.specs.declared.Perspective.{Perspective}
-use Rattle.pieces.specs.Picture.{px}
+pub use Rattle.pieces.specs.Picture.{SameWhite}
 use Rattle.fitness.specs.Expected.{Expected, expected}
 use Rattle.fitness.specs.Total.{total}
 use Rattle.cell_fitness.specs.Seen.{cellOf}
@@ -28,7 +26,3 @@ scoreOf pic width height c cells = total (cellOf pic width height c) cells
 -- the fitness of a perspective for a grid with so many cells along a side
 abbrev pub fitnessOf : List ℕ → ℕ → ℕ → ℕ → Perspective → Finding ℤ
 fitnessOf pic width height size c = scoreOf pic width height c (expected size)
-
--- two pictures of these sides are white at the same pixels
-abbrev pub SameWhite : ℕ → ℕ → List ℕ → List ℕ → Type 0
-SameWhite width height p q = (x y : ℕ) → x < width → y < height → (px p width x y ≡ 0) ↔ (px q width x y ≡ 0)
