@@ -4,7 +4,7 @@ use native.Mathlib.Omega.{arith}
 use mathlib.Core.Path.{_≡_, refl, sym, ap, _∙_, subst}
 use mathlib.Core.Bool.{Bool, true, false, cond}
 use mathlib.Core.List.{List, [], _∷_, _++_}
-use mathlib.Core.Logic.{inl, inr, ⊎-elim}
+use mathlib.Core.Logic.{inl, ⊎-elim}
 use lib.Dec.{leb}
 use lib.IntN.{ℤ, pos}
 use lib.Ieee.{Float}
@@ -12,6 +12,7 @@ use Rattle.refusals.specs.Finding.{Finding, found, refused}
 use Rattle.floats.specs.Float64.{_⊕_, float}
 use Rattle.points.specs.declared.Point.{Point}
 use Rattle.pieces.specs.Count.{Mem}
+use Rattle.pieces.proofs.Counting.{mem-before, mem-after}
 use Rattle.geometry.specs.Create.{sightOf}
 use Rattle.geometry.specs.Map.{mapped}
 use Rattle.geometry.specs.declared.Perspective.{Perspective}
@@ -57,14 +58,6 @@ total-found seen (d ∷ es) s h e m =
     (λ is. let w = weighed-found (d .shade) (seen (d .col) (d .line)) (both .0 .0) (both .0 .1) in (w .0, ap (λ (v : Expected). seen (v .col) (v .line)) is ∙ w .1))
     (λ n. total-found seen es (both .1 .0) (both .1 .1) e n)
     m
-
-mem-before : {A : Type 0} (l m : List A) (a : A) → Mem a l → Mem a (l ++ m)
-mem-before [] m a i = absurd i
-mem-before (c ∷ l) m a i = ⊎-elim (λ e. inl e) (λ n. inr (mem-before l m a n)) i
-
-mem-after : {A : Type 0} (l m : List A) (a : A) → Mem a m → Mem a (l ++ m)
-mem-after [] m a i = i
-mem-after (c ∷ l) m a i = inr (mem-after l m a i)
 
 -- the middle of the first mark is expected, whatever the size
 abbrev middle : Expected

@@ -2,17 +2,18 @@
 use Prim.Native.Nat.{ℕ, _≤_}
 use mathlib.Core.Path.{_≡_, refl, sym, ap, _∙_, subst}
 use mathlib.Core.List.{List, [], _∷_, _++_}
-use mathlib.Core.Logic.{_⊎_, inl, inr, ⊎-elim}
+use mathlib.Core.Logic.{inl, inr, ⊎-elim}
 use lib.IntN.{ℤ}
 use lib.Signed.{_≤ℤ_}
 use Rattle.points.specs.declared.Point.{Point}
 use Rattle.pieces.specs.declared.Row.{Row}
 use Rattle.pieces.specs.Count.{Mem}
+use Rattle.pieces.proofs.Counting.{mem-before, mem-after}
 use Rattle.fill.specs.Fold.{folded}
 use Rattle.corners.specs.Rows.{pointAt, leftEnd, rightEnd, byEnds, seenIn, ends}
 use Rattle.corners.specs.First.{First}
 use Rattle.corners.proofs.Order.{≤ℤ-trans}
-use Rattle.corners.proofs.Extremes.{first-highest, mem-right}
+use Rattle.corners.proofs.Extremes.{first-highest}
 use Rattle.corners.proofs.Peaks.{Peaked}
 
 module _ {A : Type 0} (see : A → Point → A) where
@@ -28,10 +29,6 @@ module _ {A : Type 0} (see : A → Point → A) where
   rows-seen a (row ∷ rows) =
       ap (λ (b : A). see (see b (leftEnd row)) (rightEnd row)) (rows-seen a rows) ∙ sym (seen-parts a (ends rows) (leftEnd row ∷ rightEnd row ∷ []))
 
-mem-left : (l m : List Point) (p : Point) → Mem p l → Mem p (l ++ m)
-mem-left [] m p i = absurd i
-mem-left (c ∷ l) m p i = ⊎-elim (λ e. inl e) (λ n. inr (mem-left l m p n)) i
-
 -- both ends of a row are among the ends of rows
 mem-ends : (rows : List Row) (row : Row) → Mem row rows → Mem (leftEnd row) (ends rows) × Mem (rightEnd row) (ends rows)
 unfolding ends
@@ -39,10 +36,10 @@ mem-ends [] row i = absurd i
 mem-ends (r ∷ rows) row i =
     ⊎-elim
     (λ e.
-    (mem-right (ends rows) (leftEnd r ∷ rightEnd r ∷ []) (leftEnd row) (inl (ap leftEnd e)), mem-right (ends rows) (leftEnd r ∷ rightEnd r ∷ []) (rightEnd row) (inr (inl (ap rightEnd e)))))
+    (mem-after (ends rows) (leftEnd r ∷ rightEnd r ∷ []) (leftEnd row) (inl (ap leftEnd e)), mem-after (ends rows) (leftEnd r ∷ rightEnd r ∷ []) (rightEnd row) (inr (inl (ap rightEnd e)))))
     (λ n.
     let m = mem-ends rows row n in
-    (mem-left (ends rows) (leftEnd r ∷ rightEnd r ∷ []) (leftEnd row) (m .0), mem-left (ends rows) (leftEnd r ∷ rightEnd r ∷ []) (rightEnd row) (m .1)))
+    (mem-before (ends rows) (leftEnd r ∷ rightEnd r ∷ []) (leftEnd row) (m .0), mem-before (ends rows) (leftEnd r ∷ rightEnd r ∷ []) (rightEnd row) (m .1)))
     i
 
 -- no pixel of the rows scores more than the first of the highest of the points, where all their ends are among those

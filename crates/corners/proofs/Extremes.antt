@@ -1,26 +1,19 @@
 -- What is kept of points that are seen one after the other is the first of those with the highest score. Assumes nothing.
 use mathlib.Core.Path.{_≡_, refl, sym, ap, _∙_, subst}
 use mathlib.Core.List.{List, [], _∷_, _++_, append-assoc, append-nil}
-use mathlib.Core.Logic.{_⊎_, inl, inr, ⊎-elim}
+use mathlib.Core.Logic.{inl, inr, ⊎-elim}
 use mathlib.Core.Bool.{Bool, true, false, not, cond}
 use lib.Dec.{T}
 use lib.IntN.{ℤ}
 use lib.Signed.{ltZ, _<ℤ_, _≤ℤ_, ltZ-yes, ltZ-no, ≤ℤ-refl, clashℤ}
 use Rattle.points.specs.declared.Point.{Point}
 use Rattle.pieces.specs.Count.{Mem}
+use Rattle.pieces.proofs.Counting.{mem-either, mem-after}
 use Rattle.corners.specs.Best.{raised, scored}
 use Rattle.corners.specs.Rows.{seenIn}
 use Rattle.corners.specs.First.{First}
 use Rattle.corners.specs.declared.places.Best.{Best}
 use Rattle.corners.proofs.Order.{<ℤ-≤ℤ, ≤ℤ-<ℤ-trans}
-
-pub mem-parts : (l m : List Point) (a : Point) → Mem a (l ++ m) → Mem a l ⊎ Mem a m
-mem-parts [] m a i = inr i
-mem-parts (c ∷ l) m a i = ⊎-elim (λ e. inl (inl e)) (λ n. ⊎-elim (λ k. inl (inr k)) (λ k. inr k) (mem-parts l m a n)) i
-
-pub mem-right : (l m : List Point) (p : Point) → Mem p m → Mem p (l ++ m)
-mem-right [] m p i = i
-mem-right (c ∷ l) m p i = inr (mem-right l m p i)
 
 module _ {score : Point → ℤ} where
   -- no point has a higher score than the first of the highest
@@ -29,7 +22,7 @@ module _ {score : Point → ℤ} where
       ⊎-elim
       (λ k. <ℤ-≤ℤ (F .lower q k))
       (λ k. ⊎-elim (λ e. subst (λ (v : Point). score v ≤ℤ score p) (sym e) (≤ℤ-refl (score p))) (λ n. F .no-higher q n) k)
-      (mem-parts (F .before) (p ∷ F .after) q (subst (Mem q) (F .are) m))
+      (mem-either (F .before) (p ∷ F .after) q (subst (Mem q) (F .are) m))
 
   -- there is only one
   pub first-only : {ps : List Point} {p q : Point} → First ps score p → First ps score q → p ≡ q
@@ -39,8 +32,8 @@ module _ {score : Point → ℤ} where
           (b c a d : List Point) → b ++ (p ∷ a) ≡ c ++ (q ∷ d) → ((r : Point) → Mem r b → score r <ℤ score p) → ((r : Point) → Mem r c → score r <ℤ score q)
           → ((r : Point) → Mem r a → score r ≤ℤ score p) → ((r : Point) → Mem r d → score r ≤ℤ score q) → p ≡ q
       go [] [] a d e f g h k = cc
-      go [] (r ∷ c) a d e f g h k = clashℤ (g p (inl (cc))) (h q (let t : c ++ (q ∷ d) ≡ a = cc in subst (Mem q) t (mem-right c (q ∷ d) q (inl refl))))
-      go (r ∷ b) [] a d e f g h k = clashℤ (f q (inl (cc))) (k p (let t : b ++ (p ∷ a) ≡ d = cc in subst (Mem p) t (mem-right b (p ∷ a) p (inl refl))))
+      go [] (r ∷ c) a d e f g h k = clashℤ (g p (inl (cc))) (h q (let t : c ++ (q ∷ d) ≡ a = cc in subst (Mem q) t (mem-after c (q ∷ d) q (inl refl))))
+      go (r ∷ b) [] a d e f g h k = clashℤ (f q (inl (cc))) (k p (let t : b ++ (p ∷ a) ≡ d = cc in subst (Mem p) t (mem-after b (p ∷ a) p (inl refl))))
       go (r ∷ b) (s ∷ c) a d e f g h k = go b c a d (cc) (λ i m. f i (inr m)) (λ i m. g i (inr m)) h k
 
   alone : (p : Point) → First (p ∷ []) score p
@@ -63,7 +56,7 @@ module _ {score : Point → ℤ} where
               ⊎-elim
               (λ k. F .no-higher r k)
               (λ k. ⊎-elim (λ e. subst (λ (v : Point). score v ≤ℤ score p) (sym e) h) (λ z. absurd z) k)
-              (mem-parts (F .after) (q ∷ []) r m);
+              (mem-either (F .after) (q ∷ []) r m);
         }
 
 -- a point that is tried against the best so far

@@ -13,6 +13,7 @@ use Rattle.pieces.specs.Chain.{start}
 use Rattle.pieces.specs.Piece.{Piece}
 use Rattle.pieces.specs.Row.{RowOf, InRow}
 use Rattle.pieces.specs.declared.Row.{Row}
+use Rattle.pieces.proofs.Counting.{mem-either, mem-after}
 use Rattle.pieces.proofs.Chains.{last-of}
 use Rattle.fill.specs.Order.{State, rowsMet}
 use Rattle.fill.specs.Fold.{folded}
@@ -25,7 +26,6 @@ use Rattle.corners.specs.Scores.{distanceOf, leftOf, lineFrom}
 use Rattle.corners.specs.First.{First, Highest, FourWays}
 use Rattle.corners.specs.Finders.{firstCornerFrom, firstCornerSees, allCornersFrom, allCornersSee, leftMostFrom, leftMostSees}
 use Rattle.corners.proofs.Small.{point-within}
-use Rattle.corners.proofs.Extremes.{mem-parts, mem-right}
 use Rattle.corners.proofs.Peaks.{Peaked, distance-peaked, along-peaked, across-peaked, behind-peaked, left-peaked}
 use Rattle.corners.proofs.Ends.{no-pixel-higher}
 use Rattle.corners.proofs.Found.{first-corner-found, all-corners-found, left-most-found}
@@ -47,7 +47,7 @@ end-of (r ∷ rows) of v m =
     (λ e. (r .left, r .y, e, R .all (r .left) (omega arith) (R .order)))
     (λ n. ⊎-elim (λ e. (r .right, r .y, e, R .all (r .right) (R .order) (omega arith))) (λ z. absurd z) n)
     k)
-    (mem-parts (ends rows) (leftEnd r ∷ rightEnd r ∷ []) v m)
+    (mem-either (ends rows) (leftEnd r ∷ rightEnd r ∷ []) v m)
 
 module _ {p : List ℕ} {w h x y t : ℕ} (ok : Valid (taskOf p w h x y t)) where
   abbrev rows : List Row
@@ -64,7 +64,7 @@ module _ {p : List ℕ} {w h x y t : ℕ} (ok : Valid (taskOf p w h x y t)) wher
       {score : Point → ℤ} → Peaked score → {points : List Point} {q : Point} → First points score q → ((v : Point) → Mem v (ends rows) → Mem v points)
       → ((v : Point) → Mem v points → PixelOf (Piece p w h x y) v) → Highest (Piece p w h x y) score q
   highest-of {score} peaked {q} F among of =
-      let here = of q (subst (Mem q) (sym (F .are)) (mem-right (F .before) (q ∷ F .after) q (inl refl))) in
+      let here = of q (subst (Mem q) (sym (F .are)) (mem-after (F .before) (q ∷ F .after) q (inl refl))) in
       record {
         column = here .0;
         line = here .1;

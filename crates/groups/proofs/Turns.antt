@@ -8,9 +8,9 @@ use lib.IntN.{ℤ}
 use lib.Signed.{ltZ, _<ℤ_, _≤ℤ_, ltZ-yes, ltZ-no, <ℤ-≤ℤ-trans, clashℤ}
 use Rattle.points.specs.declared.Point.{Point}
 use Rattle.pieces.specs.Count.{Mem}
+use Rattle.pieces.proofs.Counting.{mem-after}
 use Rattle.capstones.specs.declared.CapStone.{CapStone}
 use Rattle.corners.proofs.Order.{<ℤ-≤ℤ}
-use Rattle.corners.proofs.Extremes.{mem-right}
 use Rattle.groups.specs.Group.{Framed}
 use Rattle.groups.specs.Turn.{turn, lefter, turnedBy, cornersOf, TurnedFrom}
 
@@ -141,9 +141,9 @@ module _ (side : Point → ℤ) where
           → ((q : Point) → Mem q d → side (u .corner0) ≤ℤ side q) → (_≡_ {A = List Point} (t .corner0 ∷ a) (u .corner0 ∷ d)) × (b ≡ c)
       go [] [] a d e f g h k = (e, refl)
       go [] (r ∷ c) a d e f g h k =
-          clashℤ (g (t .corner0) (inl (cc))) (h (u .corner0) (let l : c ++ (u .corner0 ∷ d) ≡ a = cc in subst (Mem (u .corner0)) l (mem-right c (u .corner0 ∷ d) (u .corner0) (inl refl))))
+          clashℤ (g (t .corner0) (inl (cc))) (h (u .corner0) (let l : c ++ (u .corner0 ∷ d) ≡ a = cc in subst (Mem (u .corner0)) l (mem-after c (u .corner0 ∷ d) (u .corner0) (inl refl))))
       go (r ∷ b) [] a d e f g h k =
-          clashℤ (f (u .corner0) (inl (cc))) (k (t .corner0) (let l : b ++ (t .corner0 ∷ a) ≡ d = cc in subst (Mem (t .corner0)) l (mem-right b (t .corner0 ∷ a) (t .corner0) (inl refl))))
+          clashℤ (f (u .corner0) (inl (cc))) (k (t .corner0) (let l : b ++ (t .corner0 ∷ a) ≡ d = cc in subst (Mem (t .corner0)) l (mem-after b (t .corner0 ∷ a) (t .corner0) (inl refl))))
       go (r ∷ b) (o ∷ c) a d e f g h k =
           let m = go b c a d (cc) (λ q n. f q (inr n)) (λ q n. g q (inr n)) h k in
           (m .0, cc)

@@ -2,12 +2,13 @@
 use Prim.Native.Nat.{ℕ, zero, suc, _+_, _*_, _≤_}
 use native.Mathlib.Omega.{arith}
 use mathlib.Core.Path.{_≡_, ap, _∙_}
-use mathlib.Core.List.{List, [], _∷_, _++_}
-use mathlib.Core.Logic.{_⊎_, inl, inr, ⊎-elim}
+use mathlib.Core.List.{List, []}
+use mathlib.Core.Logic.{⊎-elim}
 use lib.ListN.{length}
 use Rattle.refusals.specs.Limits.{mostStones}
 use Rattle.refusals.specs.Finding.{Finding, found}
 use Rattle.pieces.specs.Count.{Mem}
+use Rattle.pieces.proofs.Counting.{mem-either}
 use Rattle.table.specs.declared.Table.{Table}
 use Rattle.scanner.specs.Cuts.{lineCuts}
 use Rattle.capstones.specs.declared.CapStone.{CapStone}
@@ -17,10 +18,6 @@ use Rattle.marks.specs.Search.{Searches, outcome, countIn, Laid}
 use Rattle.marks.specs.declared.search.Marks.{Marks}
 use Rattle.marks.proofs.Work.{Goes}
 use Rattle.marks.proofs.Searching.{Stands, line-stands, search-goes}
-
-mem-either : {A : Type 0} (l m : List A) (a : A) → Mem a (l ++ m) → Mem a l ⊎ Mem a m
-mem-either [] m a i = inr i
-mem-either (c ∷ l) m a i = ⊎-elim (λ e. inl (inl e)) (λ n. ⊎-elim (λ k. inl (inr k)) (λ k. inr k) (mem-either l m a n)) i
 
 -- each of a picture's cuts stands on it
 cuts-stand : (p : List ℕ) (w h n y : ℕ) → y + n ≤ h → (at : Place) → Mem at (cutsFrom p w n y) → Stands p w h at

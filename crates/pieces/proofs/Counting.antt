@@ -1,6 +1,6 @@
 -- Lists without repeats: one whose members are all another's is no longer than it; numbers below n are at most n. Assumes nothing.
 use mathlib.Core.Path.{_≡_, refl, sym, ap, _∙_, subst}
-use mathlib.Core.List.{List, [], _∷_, map}
+use mathlib.Core.List.{List, [], _∷_, _++_, map}
 use mathlib.Core.Logic.{_⊎_, inl, inr, ⊎-elim}
 use Prim.Native.Nat.{ℕ, zero, suc, _<_, _≤_}
 use native.Mathlib.Omega.{arith}
@@ -55,6 +55,20 @@ mem-upto (suc n) k l = ⊎-elim (λ e. inl e) (λ e. inr (mem-upto n k (omega ar
 
 pub below-length : (n : ℕ) (l : List ℕ) → Distinct l → ((k : ℕ) → Mem k l → k < n) → length l ≤ n
 below-length n l d g = omega (arith, sub-length l (upto n) d (λ k i. mem-upto n k (g k i)), length-upto n)
+
+-- what stands in two lists joined, stands in one of them
+module _ {A : Type 0} where
+  pub mem-either : (l m : List A) (a : A) → Mem a (l ++ m) → Mem a l ⊎ Mem a m
+  mem-either [] m a i = inr i
+  mem-either (c ∷ l) m a i = ⊎-elim (λ e. inl (inl e)) (λ n. ⊎-elim (λ k. inl (inr k)) (λ k. inr k) (mem-either l m a n)) i
+
+  pub mem-before : (l m : List A) (a : A) → Mem a l → Mem a (l ++ m)
+  mem-before [] m a i = absurd i
+  mem-before (c ∷ l) m a i = ⊎-elim (λ e. inl e) (λ n. inr (mem-before l m a n)) i
+
+  pub mem-after : (l m : List A) (a : A) → Mem a m → Mem a (l ++ m)
+  mem-after [] m a i = i
+  mem-after (c ∷ l) m a i = inr (mem-after l m a i)
 
 -- a list and its image
 module _ {A B : Type 0} (g : A → B) where
