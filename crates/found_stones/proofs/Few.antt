@@ -2,13 +2,12 @@
 use Prim.Native.Nat.{ℕ, _+_, _≤_}
 use native.Mathlib.Omega.{arith}
 use mathlib.Core.Path.{_≡_, refl, sym, ap, _∙_}
-use mathlib.Core.Bool.{Bool, true, false, not, cond, _&&_}
+use mathlib.Core.Bool.{Bool, true, false, not, cond}
 use mathlib.Core.List.{List, [], _∷_, _++_}
 use lib.Dec.{leb}
-use lib.IntN.{natAbs}
 use lib.ListN.{length, length-append}
 use borrow.Author.Tests.{leb-false}
-use Rattle.refusals.specs.Limits.{farthest, mostStones}
+use Rattle.refusals.specs.Limits.{mostStones}
 use Rattle.refusals.specs.Finding.{Finding, found, refused, refusedBy}
 use Rattle.refusals.specs.declared.Refusal.the-variants as refusal
 use Rattle.points.specs.declared.Point.{Point}
@@ -17,11 +16,13 @@ use Rattle.geometry.specs.Map.{mapped}
 use Rattle.geometry.specs.declared.Perspective.{Perspective}
 use Rattle.geometry.specs.declared.Sight.{Sight}
 use Rattle.geometry.specs.declared.Sight.the-variants.{Made, Flat}
+use Rattle.stated.specs.Stated.{near}
 use Rattle.corners.specs.declared.all_corners.AllCornerFinder.{AllCornerFinder}
 use Rattle.table.specs.declared.Table.{Table}
 use Rattle.scanner.specs.declared.LinePosition.{LinePosition}
+use Rattle.capstones.specs.Modules.{seven, middle}
 use Rattle.capstones.specs.declared.CapStone.{CapStone}
-use Rattle.marks.specs.Stone.{stone, seven, middle, placedStone, centredStone, seenStone, stoneOf}
+use Rattle.marks.specs.Stone.{stone, placedStone, centredStone, seenStone, stoneOf}
 use Rattle.marks.specs.Search.{Tries, no-ring, ring, Place, Searches, finished, tried, stopped}
 
 -- stones that are told: one, where it has room
@@ -37,7 +38,7 @@ module _ (n : ℕ) (k : List CapStone) (low : n ≤ mostStones) where
   placed-few : (p0 p1 p2 p3 : Point) (c : Perspective) (g : Finding Point) → placedStone p0 p1 p2 p3 c n g ≡ found k → n + length k ≤ mostStones
   unfolding placedStone
   placed-few p0 p1 p2 p3 c (found center) e =
-      let t = one-told (not (leb (natAbs (center .x)) farthest && leb (natAbs (center .y)) farthest)) (leb mostStones n) (stone p0 p1 p2 p3 center c) k e in
+      let t = one-told (not (near center)) (leb mostStones n) (stone p0 p1 p2 p3 center c) k e in
       let room = leb-false mostStones n (t .0) in
       omega (arith, t .1)
   placed-few p0 p1 p2 p3 c (refused why) e = let z : _≡_ {A = ℕ} 0 1 = cc in absurd (omega arith)

@@ -2,13 +2,13 @@
 use Prim.Native.Nat.{ℕ, _*_, _≤_}
 use native.Mathlib.Omega.{arith}
 use mathlib.Core.Path.{_≡_, refl, sym, _∙_, subst}
-use mathlib.Core.Bool.{Bool, true, false, not, cond, _&&_}
-use mathlib.Core.List.{List, [], _∷_, _++_}
-use mathlib.Core.Logic.{_⊎_, inl, inr, ⊎-elim}
+use mathlib.Core.Bool.{Bool, true, false, not, cond}
+use mathlib.Core.List.{List, [], _∷_}
+use mathlib.Core.Logic.{inl, inr, ⊎-elim}
 use lib.Dec.{leb}
-use lib.IntN.{ℤ, natAbs}
-use borrow.Author.Tests.{leb-true}
-use Rattle.refusals.specs.Limits.{longestSide, farthest, mostStones}
+use lib.IntN.{ℤ}
+use borrow.Author.Tests.{not-false}
+use Rattle.refusals.specs.Limits.{longestSide, mostStones}
 use Rattle.refusals.specs.Finding.{Finding, found, refused, refusedBy}
 use Rattle.refusals.specs.declared.Refusal.the-variants as refusal
 use Rattle.points.specs.Range.{Within, Near}
@@ -18,8 +18,11 @@ use Rattle.geometry.specs.Map.{mapped}
 use Rattle.geometry.specs.declared.Perspective.{Perspective}
 use Rattle.geometry.specs.declared.Sight.{Sight}
 use Rattle.geometry.specs.declared.Sight.the-variants.{Made, Flat}
+use Rattle.stated.specs.Stated.{near}
+use Rattle.stated.proofs.Reach.{near-is}
 use Rattle.pieces.specs.Count.{Mem}
 use Rattle.pieces.specs.Piece.{Piece}
+use Rattle.pieces.proofs.Counting.{mem-either}
 use Rattle.pieces.proofs.Chains.{last-of}
 use Rattle.fill.proofs.Filling.{can-fill}
 use Rattle.corners.specs.First.{Highest}
@@ -28,9 +31,10 @@ use Rattle.corners.proofs.Small.{point-within}
 use Rattle.corners.proofs.Farthest.{all-corners-farthest}
 use Rattle.table.specs.declared.Table.{Table}
 use Rattle.scanner.specs.declared.LinePosition.{LinePosition}
+use Rattle.capstones.specs.Modules.{seven, middle}
 use Rattle.capstones.specs.declared.CapStone.{CapStone}
 use Rattle.marks.specs.InWork.{InWork, AtCut}
-use Rattle.marks.specs.Stone.{Ringed, Rings, firstCorner, stone, seven, middle, placedStone, centredStone, seenStone, stoneOf}
+use Rattle.marks.specs.Stone.{Ringed, Rings, firstCorner, stone, placedStone, centredStone, seenStone, stoneOf}
 use Rattle.marks.specs.Search.{Tries, no-ring, ring, Place, allCuts, Searches, finished, tried, stopped}
 use Rattle.marks.proofs.Cut.{tests-ringed}
 use Rattle.marks.proofs.Fills.{fill-two}
@@ -60,12 +64,6 @@ rings-cornered {p} {w} {h} {lent} {x} {y} R F =
 same-list : (l k : List CapStone) → found l ≡ found k → k ≡ l
 same-list l k e = cc
 
--- both sizes within bounds are what the test 12 asks
-both : (a b : Bool) → not (a && b) ≡ false → (a ≡ true) × (b ≡ true)
-both true true e = (refl, refl)
-both true false e = let z : _≡_ {A = ℕ} 0 1 = cc in absurd (omega arith)
-both false b e = let z : _≡_ {A = ℕ} 0 1 = cc in absurd (omega arith)
-
 -- a stone that is told passed the tests, and is the one that was made
 passed : (far full : Bool) (l k : List CapStone) → cond far (refusedBy refusal.Far) (cond full (refusedBy refusal.Stones) (found l)) ≡ found k → (far ≡ false) × (k ≡ l)
 passed true full l k e = let z : _≡_ {A = ℕ} 0 1 = cc in absurd (omega arith)
@@ -88,8 +86,7 @@ module _ {w h : ℕ} (f : AllCornerFinder) (C : Cornered w h f) (n : ℕ) (k : L
   placed-found : (c : Perspective) (g : Finding Point) → placedStone p0 p1 p2 p3 c n g ≡ found k → (s : CapStone) → Mem s k → FoundIn w h s
   unfolding placedStone
   placed-found c (found center) e s m =
-      let t = passed (not (leb (natAbs (center .x)) farthest && leb (natAbs (center .y)) farthest)) (leb mostStones n) (stone p0 p1 p2 p3 center c ∷ []) k e in
-      let low = both _ _ (t .0) in
+      let t = passed (not (near center)) (leb mostStones n) (stone p0 p1 p2 p3 center c ∷ []) k e in
       ⊎-elim
       (λ is.
       rw is
@@ -98,7 +95,7 @@ module _ {w h : ℕ} (f : AllCornerFinder) (C : Cornered w h f) (n : ℕ) (k : L
         corner1 = C .right;
         corner2 = C .behind;
         corner3 = C .left;
-        near = record { x-low = leb-true _ _ (low .0); y-low = leb-true _ _ (low .1) };
+        near = near-is center (not-false _ (t .0));
       }))
       (λ z. absurd z)
       (subst (Mem s) (t .1) m)
@@ -114,10 +111,6 @@ module _ {w h : ℕ} (f : AllCornerFinder) (C : Cornered w h f) (n : ℕ) (k : L
   stone-found e s m = seen-found (sightOf p0 p1 p2 p3 seven seven) e s m
 
 -- ---- the search
-mem-either : {A : Type 0} (l m : List A) (a : A) → Mem a (l ++ m) → Mem a l ⊎ Mem a m
-mem-either [] m a i = inr i
-mem-either (c ∷ l) m a i = ⊎-elim (λ e. inl (inl e)) (λ n. ⊎-elim (λ k. inl (inr k)) (λ k. inr k) (mem-either l m a n)) i
-
 -- what a cut adds
 tries-found : {p : List ℕ} {w h lent : ℕ} {T : Table} {y : ℕ} {cut : LinePosition} {n : ℕ} {f : Finding (List CapStone)} {q : List ℕ} {U : Table}
     → AtCut p w h lent T y cut → Tries p w h y cut T n f q U → (k : List CapStone) → f ≡ found k → (s : CapStone) → Mem s k → FoundIn w h s

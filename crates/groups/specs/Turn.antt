@@ -1,9 +1,8 @@
 -- A stone turned by a line: corner 0 becomes the one that lies farthest to its left. Taken from the Rust (`rotate_capstone`). Definitions alone.
 use mathlib.Core.Path.{_≡_}
-use mathlib.Core.Bool.{cond, false}
+use mathlib.Core.Bool.{cond}
 use mathlib.Core.List.{List, [], _∷_, _++_}
-use lib.IntN.{ℤ, pos}
-use lib.Ieee.{Float, fin}
+use lib.IntN.{ℤ}
 use lib.Signed.{ltZ, _<ℤ_, _≤ℤ_}
 use Rattle.refusals.specs.Finding.{Finding, found, refusedBy}
 use Rattle.refusals.specs.declared.Refusal.the-variants as refusal
@@ -13,6 +12,7 @@ use Rattle.geometry.specs.Create.{sightOf}
 use Rattle.geometry.specs.declared.Perspective.{Perspective}
 use Rattle.geometry.specs.declared.Sight.{Sight}
 use Rattle.geometry.specs.declared.Sight.the-variants.{Made, Flat}
+use Rattle.capstones.specs.Modules.{seven}
 use Rattle.capstones.specs.declared.CapStone.{CapStone}
 use Rattle.groups.specs.Side.{sideOf}
 use Rattle.groups.specs.declared.Rotated.{Rotated}
@@ -39,10 +39,6 @@ turnedBy side s = lefter side (lefter side (lefter side s (turn s)) (turn (turn 
 abbrev pub withSight : CapStone → Perspective → CapStone
 withSight s c =
     record { corner0 = s .corner0; corner1 = s .corner1; corner2 = s .corner2; corner3 = s .corner3; center = s .center; c = c }
-
--- a stone is seven modules wide and high
-abbrev pub seven : Float
-seven = fin false 7 (pos 0)
 
 -- the perspective of a stone's corners
 abbrev pub sight : CapStone → Sight

@@ -2,14 +2,13 @@
 use Prim.Native.Nat.{ℕ, zero, suc, _+_, _-_, _*_, _≤_, _<_}
 use native.Mathlib.Omega.{arith}
 use mathlib.Core.Path.{_≡_, refl, sym, ap, _∙_, subst}
-use mathlib.Core.Bool.{Bool, true, false, not, cond, _&&_}
+use mathlib.Core.Bool.{Bool, true, false, not, cond}
 use mathlib.Core.List.{List, [], _∷_, _++_, append-nil}
 use mathlib.Core.Logic.{inl, inr, ⊎-elim}
 use lib.Dec.{leb}
-use lib.IntN.{natAbs}
 use lib.ListN.{length}
 use borrow.Author.Tests.{leb-false}
-use Rattle.refusals.specs.Limits.{farthest, mostStones}
+use Rattle.refusals.specs.Limits.{mostStones}
 use Rattle.refusals.specs.Finding.{Finding, found, refused, refusedBy}
 use Rattle.refusals.specs.declared.Refusal.the-variants as refusal
 use Rattle.picture.specs.declared.Verdict.{Verdict}
@@ -20,6 +19,7 @@ use Rattle.geometry.specs.Map.{mapped}
 use Rattle.geometry.specs.declared.Perspective.{Perspective}
 use Rattle.geometry.specs.declared.Sight.{Sight}
 use Rattle.geometry.specs.declared.Sight.the-variants.{Made, Flat}
+use Rattle.stated.specs.Stated.{near}
 use Rattle.pieces.specs.Count.{Mem}
 use Rattle.table.specs.declared.Table.{Table}
 use Rattle.scanner.specs.Edges.{dark}
@@ -31,9 +31,10 @@ use Rattle.scanner.proofs.Dark.{OnDark, line-dark}
 use Rattle.scanner.proofs.Ahead.{begun-on}
 use Rattle.scanner.proofs.Alike.{ahead-alike, line-alike}
 use Rattle.corners.specs.declared.all_corners.AllCornerFinder.{AllCornerFinder}
+use Rattle.capstones.specs.Modules.{seven, middle}
 use Rattle.capstones.specs.declared.CapStone.{CapStone}
 use Rattle.marks.specs.InWork.{InWork, AtCut}
-use Rattle.marks.specs.Stone.{middle, seven, placedStone, centredStone, seenStone, stoneOf}
+use Rattle.marks.specs.Stone.{placedStone, centredStone, seenStone, stoneOf}
 use Rattle.marks.specs.Cuts.{Place, placesOn, cutsFrom, allCuts, cutsAfter, Reaches, next-cut, no-cut}
 use Rattle.marks.specs.declared.cuts.Cutting.{Cutting}
 use Rattle.marks.specs.declared.cuts.Cutting.the-variants.{At, Done}
@@ -53,7 +54,7 @@ room-of false false a f e = refl
 
 placed-room : (p0 p1 p2 p3 : Point) (c : Perspective) (n : ℕ) (f : Finding Point) (stone : CapStone) → placedStone p0 p1 p2 p3 c n f ≡ found (stone ∷ []) → n < mostStones
 unfolding placedStone
-placed-room p0 p1 p2 p3 c n (found center) stone e = leb-false mostStones n (room-of (not (leb (natAbs (center .x)) farthest && leb (natAbs (center .y)) farthest)) (leb mostStones n) (stone ∷ []) (found (record { corner0 = p0; corner1 = p1; corner2 = p2; corner3 = p3; center = center; c = c } ∷ [])) e)
+placed-room p0 p1 p2 p3 c n (found center) stone e = leb-false mostStones n (room-of (not (near center)) (leb mostStones n) (stone ∷ []) (found (record { corner0 = p0; corner1 = p1; corner2 = p2; corner3 = p3; center = center; c = c } ∷ [])) e)
 placed-room p0 p1 p2 p3 c n (refused why) stone e = let z : _≡_ {A = ℕ} 0 1 = cc in absurd (omega arith)
 
 seen-room : (p0 p1 p2 p3 : Point) (n : ℕ) (s : Sight) (stone : CapStone) → seenStone p0 p1 p2 p3 n s ≡ found (stone ∷ []) → n < mostStones

@@ -1,13 +1,10 @@
 -- A mark's stone: document 01, "Marks"; the order of the corners is taken from the Rust, and the refusals come as 13, 12, 11. Definitions alone.
 use Prim.Native.Nat.{ℕ, _≤_}
 use mathlib.Core.Path.{_≡_}
-use mathlib.Core.Bool.{false, not, _&&_}
 use mathlib.Core.List.{List, [], _∷_}
 use lib.Dec.{leb}
-use lib.IntN.{natAbs, pos, negsuc}
-use lib.Ieee.{Float, fin}
 use lib.ListN.{length}
-use Rattle.refusals.specs.Limits.{farthest, mostStones}
+use Rattle.refusals.specs.Limits.{mostStones}
 use Rattle.refusals.specs.Finding.{Finding, found, refused, refusedBy}
 use Rattle.refusals.specs.First.{Test, _when_, first}
 use Rattle.refusals.specs.declared.Refusal.the-variants as refusal
@@ -17,6 +14,7 @@ use Rattle.geometry.specs.Map.{mapped}
 use Rattle.geometry.specs.declared.Perspective.{Perspective}
 use Rattle.geometry.specs.declared.Sight.{Sight}
 use Rattle.geometry.specs.declared.Sight.the-variants.{Made, Flat}
+use Rattle.stated.specs.Stated.{farTest}
 use Rattle.picture.specs.Sides.{Seeded}
 use Rattle.pieces.specs.Picture.{px}
 use Rattle.pieces.specs.Paint.{Paints}
@@ -25,6 +23,7 @@ use Rattle.fill.specs.Fold.{folded}
 use Rattle.corners.specs.Rows.{pointAt, byEnds}
 use Rattle.corners.specs.Finders.{firstCornerFrom, firstCornerSees, allCornersFrom, allCornersSee}
 use Rattle.corners.specs.declared.all_corners.AllCornerFinder.{AllCornerFinder}
+use Rattle.capstones.specs.Modules.{seven, middle}
 use Rattle.capstones.specs.declared.CapStone.{CapStone}
 use Rattle.marks.specs.declared.stone.Mark.{Mark}
 use Rattle.marks.specs.declared.stone.Mark.the-variants.{Stone, Dropped, Refused}
@@ -38,10 +37,6 @@ meaning (Refused why) = refusedBy why
 abbrev pub stone : Point → Point → Point → Point → Point → Perspective → CapStone
 stone p0 p1 p2 p3 center c = record { corner0 = p0; corner1 = p1; corner2 = p2; corner3 = p3; center = center; c = c }
 
--- 12: the centre lies further out than 10,000
-abbrev pub farTest : Point → Test
-farTest p = refusal.Far when not (leb (natAbs (p .x)) farthest && leb (natAbs (p .y)) farthest)
-
 -- 11: 64 stones were found before it
 abbrev pub stonesTest : ℕ → Test
 stonesTest n = refusal.Stones when leb mostStones n
@@ -49,13 +44,6 @@ stonesTest n = refusal.Stones when leb mostStones n
 -- what a stone with this centre, after n others, is refused for: 12, 11
 abbrev pub stoneTests : Point → ℕ → List Test
 stoneTests center n = farTest center ∷ stonesTest n ∷ []
-
--- a mark is seven modules wide and high, and its centre is the middle: 7 and 3.5, which is 7 x 2^-1
-abbrev pub seven : Float
-seven = fin false 7 (pos 0)
-
-abbrev pub middle : Float
-middle = fin false 7 (negsuc 0)
 
 -- 13 where the centre lies at no place; then 12, 11; then the stone
 unfoldable pub placedStone : Point → Point → Point → Point → Perspective → ℕ → Finding Point → Finding (List CapStone)

@@ -10,12 +10,10 @@ use geometry::Sight;
 use geometry::Spot;
 use points::Point;
 use refusals::Refusal;
+use stated::is_near;
 ghost use mathlib.Core.Path.{_≡_};
 ghost use mathlib.Core.List.{[], _∷_};
-ghost use lib.Dec.{leb};
-ghost use lib.IntN.{natAbs};
 ghost use lib.ListN.{length};
-ghost use Rattle.refusals.specs.Limits.{farthest};
 ghost use Rattle.refusals.specs.Finding.{found};
 ghost use Rattle.refusals.specs.First.{first};
 ghost use Rattle.marks.specs.Stone.{meaning, stone, stoneTests, centredStone, stoneOf, Ringed, Rings, Creates};
@@ -25,13 +23,6 @@ pub enum Mark {
     Stone(CapStone),
     Dropped,
     Refused(Refusal),
-}
-
-// Whether a coordinate is no further out than a stated point's may be.
-fn is_near(z: i32) -> bool
-    ensures { λ r. ⌜ r ≡ leb (natAbs z) farthest ⌝ }
-{
-    -10000 <= z && z <= 10000
 }
 
 // The stone of these corners, centre and perspective, after n others: 12 where its centre lies too far out, 11 where there is no room for it.
@@ -46,10 +37,7 @@ fn admitted(
 ) -> Mark
     ensures { λ r. ⌜ meaning r ≡ first (stoneTests center n) (found (stone p0 p1 p2 p3 center c ∷ [])) ⌝ }
 {
-    if !is_near(center.x) {
-        return Mark::Refused(Refusal::Far);
-    }
-    if !is_near(center.y) {
+    if !is_near(center) {
         return Mark::Refused(Refusal::Far);
     }
     if n >= 64 {

@@ -17,8 +17,9 @@ use Rattle.geometry.specs.Unmap.{unmapped}
 use Rattle.floats.specs.Float64.{_⊖_}
 use Rattle.capstones.specs.declared.CapStone.{CapStone}
 use Rattle.capstones.specs.Blank.{noStone}
+use Rattle.capstones.specs.Modules.{middle}
 use Rattle.match_capstones.specs.Only.{only}
-use Rattle.match_capstones.specs.Neighbors.{middle, offset, inLine, neighbor, Other, others, othersOf, hlist, vlist}
+use Rattle.match_capstones.specs.Neighbors.{offset, inLine, neighbor, Other, others, othersOf, hlist, vlist}
 use Rattle.match_capstones.specs.All.{All, all-none, all-one}
 use Rattle.match_capstones.proofs.Fifth.{above-fifth, one-way}
 use Rattle.match_capstones.proofs.All.{all-others}

@@ -4,7 +4,8 @@ use mathlib.Core.Bool.{true, false}
 use lib.IntN.{pos, negsuc}
 use lib.Ieee.{nan, inf, fin, lt, sub, div, ofInt, isNan}
 use Rattle.floats.specs.Float64.{_⊘_, float}
-use Rattle.match_capstones.specs.Neighbors.{absolute, middle, fifth}
+use Rattle.capstones.specs.Modules.{middle}
+use Rattle.match_capstones.specs.Neighbors.{absolute, fifth}
 use Rattle.match_capstones.specs.Scores.{scoreOf, viable}
 use Rattle.match_capstones.specs.Order.{ranksBefore, alike}
 

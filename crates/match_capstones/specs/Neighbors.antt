@@ -14,6 +14,7 @@ use Rattle.geometry.specs.declared.GridPoint.{GridPoint}
 use Rattle.geometry.specs.Unmap.{unmapped}
 use Rattle.capstones.specs.declared.CapStone.{CapStone}
 use Rattle.capstones.specs.Blank.{noStone}
+use Rattle.capstones.specs.Modules.{middle}
 use Rattle.match_capstones.specs.Only.{only}
 use Rattle.match_capstones.specs.declared.Neighbor.{Neighbor}
 
@@ -22,10 +23,6 @@ unfoldable pub absolute : Float → Float
 absolute nan = nan
 absolute (inf s) = inf false
 absolute (fin s m e) = fin false m e
-
--- 3.5: a stone's middle, on either axis of its grid
-abbrev pub middle : Float
-middle = fin false 7 (negsuc 0)
 
 -- 0.2: the float nearest to a fifth
 abbrev pub fifth : Float

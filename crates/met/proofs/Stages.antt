@@ -1,11 +1,10 @@
 -- What the search for marks, the groupings, the final pass and the bounds meet. Assumes nothing.
 use Prim.Native.Nat.{ℕ}
 use native.Mathlib.Omega.{arith}
-use mathlib.Core.Bool.{Bool, true, false, not, cond, _&&_}
+use mathlib.Core.Bool.{Bool, true, false, not, cond}
 use mathlib.Core.List.{List, [], _∷_}
 use lib.Dec.{leb}
-use lib.IntN.{natAbs}
-use Rattle.refusals.specs.Limits.{farthest, mostStones}
+use Rattle.refusals.specs.Limits.{mostStones}
 use Rattle.refusals.specs.Finding.{Finding, found, refused, refusedBy}
 use Rattle.refusals.specs.declared.Refusal.the-variants as refusal
 use Rattle.points.specs.declared.Point.{Point}
@@ -14,11 +13,13 @@ use Rattle.geometry.specs.Map.{mapped}
 use Rattle.geometry.specs.declared.Perspective.{Perspective}
 use Rattle.geometry.specs.declared.Sight.{Sight}
 use Rattle.geometry.specs.declared.Sight.the-variants.{Made, Flat}
+use Rattle.stated.specs.Stated.{near}
 use Rattle.corners.specs.declared.all_corners.AllCornerFinder.{AllCornerFinder}
 use Rattle.table.specs.declared.Table.{Table}
 use Rattle.scanner.specs.declared.LinePosition.{LinePosition}
+use Rattle.capstones.specs.Modules.{seven, middle}
 use Rattle.capstones.specs.declared.CapStone.{CapStone}
-use Rattle.marks.specs.Stone.{seven, middle, placedStone, centredStone, seenStone, stoneOf}
+use Rattle.marks.specs.Stone.{placedStone, centredStone, seenStone, stoneOf}
 use Rattle.marks.specs.Search.{Place, Tries, no-ring, ring, Searches, finished, tried, stopped}
 use Rattle.grids.specs.declared.SkewedGridLocation.{SkewedGridLocation}
 use Rattle.bounds.specs.Bounds.{withBounds, nought, beyond, boundedOf}
@@ -47,7 +48,7 @@ stone-met corners n =
     tests false false s = tt
 
     places : (p0 p1 p2 p3 : Point) (c : Perspective) (f : Finding Point) → Met f → Met (placedStone p0 p1 p2 p3 c n f)
-    places p0 p1 p2 p3 c (found center) m = tests (not (leb (natAbs (center .x)) farthest && leb (natAbs (center .y)) farthest)) (leb mostStones n) _
+    places p0 p1 p2 p3 c (found center) m = tests (not (near center)) (leb mostStones n) _
     places p0 p1 p2 p3 c (refused why) m = m
 
     sees : (p0 p1 p2 p3 : Point) (v : Sight) → Met (seenStone p0 p1 p2 p3 n v)
