@@ -10,12 +10,11 @@ use Rattle.picture.specs.Sides.{Roomy}
 use Rattle.points.specs.Range.{Within}
 use Rattle.points.specs.declared.Point.{Point}
 use Rattle.pieces.specs.Picture.{px}
-use Rattle.pieces.specs.Chain.{start}
-use Rattle.pieces.specs.Paint.{Paints}
 use Rattle.table.specs.declared.Table.{Table}
 use Rattle.table.proofs.Kept.{Proper}
 use Rattle.regions.specs.Found.{Answer}
 use Rattle.regions.specs.Lookup.{Looks, at-claimed, at-known, at-fresh, at-again}
+use Rattle.regions.proofs.Twice.{seed-shows}
 use Rattle.corners.specs.Rows.{pointAt}
 use Rattle.corners.proofs.Small.{point-within}
 use Rattle.alignment.specs.Visit.{visitOf, white, not-listed, looked, Visits, beside, at-pixel}
@@ -44,9 +43,6 @@ pub record Sighted (q : List ℕ) (w h : ℕ) (at : Point) : Type 0 where
   pub in-x : x < w
   pub in-y : y < h
   pub shows : 5 ≤ px q w x y
-
-seed-shows : {p : List ℕ} {w h x y t : ℕ} {q : List ℕ} → x < w → y < h → Paints p w h x y t q → px q w x y ≡ t
-seed-shows {x = x} {y = y} hx hy P = P .piece x y (start (hx, hy, refl))
 
 -- a lookup that makes its place the answer shows a number there
 look-shows : {p : List ℕ} {w h : ℕ} {T : Table} (estimate : ℕ) {x y : ℕ} {a : Answer} {q : List ℕ} {U : Table} → x < w → y < h → Here ≡ visitOf estimate a → Looks p w h x y T a q U → 5 ≤ px q w x y

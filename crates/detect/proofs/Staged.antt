@@ -1,8 +1,7 @@
 -- What each stage of detect hands on, and what the stages keep: the picture's length, its white pixels, a sound table. Assumes nothing.
 use Prim.Native.Nat.{ℕ, _≤_}
 use native.Mathlib.Nat.{le-refl}
-use native.Mathlib.Omega.{arith}
-use mathlib.Core.Path.{_≡_, refl, sym, ap, _∙_, subst}
+use mathlib.Core.Path.{_≡_, sym, ap, _∙_, subst}
 use mathlib.Core.List.{List, []}
 use lib.ListN.{length, take}
 use lib.Seq.{length-take-le}
@@ -42,9 +41,6 @@ finish-fits m l {located} whole e N X is =
 -- after the search there is room for a fill, and the table is sound
 pub then-workable : {p : List ℕ} {w h lent room : ℕ} {q : List ℕ} {U : Table} → Roomy w h (length p) lent → Kept p w h q U → lent ≤ room → Workable q w h room U
 then-workable R K enough = record { roomy = still-roomy R (K .len) enough; sound = proper-test (K .proper) }
-
-pub still-workable : {p : List ℕ} {w h lent room : ℕ} {T : Table} → Workable p w h lent T → room ≡ lent → Workable p w h room T
-still-workable W same = record { roomy = still-roomy (W .roomy) refl (omega (arith, same)); sound = W .sound }
 
 -- the groups of stones that were found can be fitted
 pub then-ready : {p : List ℕ} {w h : ℕ} {T : Table} {stones : List CapStone} {groups : List Trio} → Stones stones (length stones) → Grouped p w h T stones (found groups) → (t : Trio) → Mem t groups → Ready stones t

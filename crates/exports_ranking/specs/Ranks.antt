@@ -9,6 +9,7 @@ use lib.ListN.{length, getD, set}
 use Rattle.refusals.specs.Numbers.{numberOf}
 use Rattle.points.specs.declared.Point.{Point}
 use Rattle.geometry.specs.declared.Perspective.{Perspective}
+use Rattle.capstones.specs.Blank.{nowhere}
 use Rattle.capstones.specs.declared.CapStone.{CapStone}
 use Rattle.match_capstones.specs.Answer.{noPair, ranking, Tells}
 use Rattle.match_capstones.specs.declared.Pair.{Pair}
@@ -33,9 +34,6 @@ perspectiveAt cs at = record {
   c6 = getD cs (at + 6) nan;
   c7 = getD cs (at + 7) nan;
 }
-
-abbrev pub nowhere : Point
-nowhere = record { x = pos 0; y = pos 0 }
 
 -- stone k of a lent list: two numbers and eight floats; a ranking looks at no corner
 unfoldable pub lentStone : List ℤ → List Float → ℕ → CapStone

@@ -1,7 +1,7 @@
 mod Uses
 mod Array
 pub mod Few
-mod Copy
+pub mod Copy
 pub mod Front
 mod Neighbours
 mod Going

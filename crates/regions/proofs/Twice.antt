@@ -36,7 +36,7 @@ settled {q} {w} {h} {lent} {U} {x} {y} k S P low shows is newest =
     (at-known (record { number = k; shows = shows; answer = refl; picture = refl; table = newest }))
 
 -- the seed of a piece that is painted shows the paint
-seed-shows : {p : List ℕ} {w h x y t : ℕ} {q : List ℕ} → x < w → y < h → Paints p w h x y t q → px q w x y ≡ t
+pub seed-shows : {p : List ℕ} {w h x y t : ℕ} {q : List ℕ} → x < w → y < h → Paints p w h x y t q → px q w x y ≡ t
 seed-shows {x = x} {y = y} hx hy P = P .piece x y (start (hx, hy, refl))
 
 -- an entry for the piece of a pixel of the picture has its seed inside

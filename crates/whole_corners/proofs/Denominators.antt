@@ -3,18 +3,18 @@ use Prim.Native.Nat.{ℕ, zero, suc, _*_, _<_}
 use native.Mathlib.Nat.{mul-zero, mul-pos, zero-lt-suc}
 use mathlib.Core.Path.{_≡_, refl, sym, ap, _∙_}
 use mathlib.Core.Bool.{true}
-use lib.IntN.{ℤ, pos, negsuc, negℤ, _+ℤ_, _-ℤ_, _*ℤ_, +ℤ-assoc, +ℤ-comm}
+use mathlib.Core.List.{[], _∷_}
+use lib.IntN.{ℤ, pos, negsuc, negℤ, _+ℤ_, _-ℤ_, _*ℤ_}
 use lib.Signed.{leZ}
 use borrow.Author.Tests.{lt-leb}
+use Rattle.sizes.proofs.Algebra.{var, _⊕_, _⊖_, same-terms}
 use Rattle.exact.specs.Formula.{worth}
 use Rattle.whole_corners.specs.Formulas.{determinant, WidthDen, HeightDen, formula}
 use Rattle.whole_corners.specs.Frame.{Frame, inIntegers}
 
-swap : (a b c : ℤ) → a +ℤ b +ℤ c ≡ a +ℤ c +ℤ b
-swap a b c = +ℤ-assoc a b c ∙ ap (λ (z : ℤ). a +ℤ z) (+ℤ-comm b c) ∙ sym (+ℤ-assoc a c b)
-
 reorder : (a b c d : ℤ) → a +ℤ d -ℤ b +ℤ c ≡ a -ℤ b +ℤ c +ℤ d
-reorder a b c d = ap (λ (z : ℤ). z +ℤ c) (swap a d (negℤ b)) ∙ swap (a -ℤ b) d c
+reorder a b c d =
+    same-terms (a ∷ b ∷ c ∷ d ∷ []) (var 0 ⊕ var 3 ⊖ var 1 ⊕ var 2) (var 0 ⊖ var 1 ⊕ var 2 ⊕ var 3) refl
 
 pub width-is : (f : Frame) → inIntegers f (formula WidthDen) ≡ pos (f .w) *ℤ inIntegers f determinant
 unfolding worth formula determinant

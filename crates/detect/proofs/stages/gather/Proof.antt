@@ -6,9 +6,9 @@ use borrow.Author.Needs.{needs}
 use Rattle.picture.specs.declared.Verdict.{Verdict}
 use Rattle.marks.specs.Search.{stonesOf, told}
 use Rattle.groupings.specs.Held.{groupsOf}
+use Rattle.groupings.proofs.Copy.{still-workable}
 use Rattle.detect.specs.Stages.{Named, unmarked, grouped}
 use Rattle.detect.proofs.Ready.{marks-long, array-named}
-use Rattle.detect.proofs.Staged.{still-workable}
 use Rattle.detect.proofs.stages.gather.Statement.{statement}
 use Rattle.detect.proofs.stages.gather.Tie as tie
 
