@@ -10,6 +10,7 @@ use Rattle.refusals.specs.Limits.{mostStones}
 use Rattle.refusals.specs.Finding.{Finding, found, refused}
 use Rattle.picture.specs.declared.Verdict.{Verdict}
 use Rattle.picture.specs.declared.Verdict.the-variants.{Sound, Refused}
+use Rattle.laid.specs.Laid as laid
 use Rattle.pieces.specs.Count.{Mem}
 use Rattle.table.specs.declared.Table.{Table}
 use Rattle.capstones.specs.Blank.{noStone}
@@ -21,7 +22,7 @@ use Rattle.marks.specs.declared.search.Marks.{Marks}
 use Rattle.found_stones.proofs.Stones.{stones-framed}
 use Rattle.found_stones.proofs.Few.{stones-few}
 use Rattle.groupings.specs.Groups.{Grouped}
-use Rattle.groupings.specs.Held.{mostGroups, noTrio, groupsOf, told, outcome, laidOut, countIn, Laid, Stones, Low}
+use Rattle.groupings.specs.Held.{mostGroups, noTrio, groupsOf, outcome, Laid, Stones, Low}
 use Rattle.groupings.specs.declared.Trio.{Trio}
 use Rattle.groupings.specs.declared.Groupings.{Groupings}
 use Rattle.groupings.proofs.Few.{groups-low}
@@ -35,27 +36,25 @@ mem-at (a ∷ l) zero d low = inl refl
 mem-at (a ∷ l) (suc k) d low = inr (mem-at l k d (omega arith))
 
 -- a list that is told as found
-stands : (v : Verdict) (k l : List CapStone) → search.told v k ≡ found l → k ≡ l
-unfolding search.told
+stands : {A : Type 0} (v : Verdict) (k l : List A) → laid.told v k ≡ found l → k ≡ l
+unfolding laid.told
 stands Sound k l e = cc
 stands (Refused why) k l e = let z : _≡_ {A = ℕ} 0 1 = cc in absurd (omega arith)
 
--- the marks, and the groups, are of their arrays
-pub marks-long : (s : Marks) → search.Laid s → s .n ≤ length (s .stones)
-unfolding search.laidOut search.countIn
-marks-long s L = long (search.outcome s) (L .count) (L .stones)
+-- what is laid out is of its array: the marks, and the groups
+laid-long : {A : Type 0} (most : ℕ) (blank : A) {v : Verdict} {n : ℕ} {array : List A} → laid.Laid most blank v n array → n ≤ length array
+unfolding laid.laidOut laid.countIn
+laid-long {A} most blank {v} {n} {array} L = long (laid.outcome most blank v n array) (L .count) (L .is)
   where
-    long : (f : Finding (List CapStone)) → s .n ≡ search.countIn f → s .stones ≡ search.laidOut f → s .n ≤ length (s .stones)
-    long (found l) n is = omega (arith, n, ap length is, length-append l (replicate (mostStones - length l) noStone))
-    long (refused k) n is = omega (arith, n)
+    long : (f : Finding (List A)) → n ≡ laid.countIn f → array ≡ laid.laidOut most blank f → n ≤ length array
+    long (found l) count is = omega (arith, count, ap length is, length-append l (replicate (most - length l) blank))
+    long (refused k) count is = omega (arith, count)
+
+pub marks-long : (s : Marks) → search.Laid s → s .n ≤ length (s .stones)
+marks-long s L = laid-long mostStones noStone L
 
 pub groups-long : (s : Groupings) → Laid s → s .n ≤ length (s .groups)
-unfolding laidOut countIn
-groups-long s L = long (outcome s) (L .count) (L .groups)
-  where
-    long : (f : Finding (List Trio)) → s .n ≡ countIn f → s .groups ≡ laidOut f → s .n ≤ length (s .groups)
-    long (found l) n is = omega (arith, n, ap length is, length-append l (replicate (mostGroups - length l) noTrio))
-    long (refused k) n is = omega (arith, n)
+groups-long s L = laid-long mostGroups noTrio L
 
 -- the stones that are found, as a list
 pub found-stones : {p : List ℕ} {w h lent : ℕ} {T : Table} {l : List CapStone} {q : List ℕ} {U : Table}
@@ -69,24 +68,19 @@ found-stones {l = l} W S =
 -- and in their array; after a refusal there are none
 module _ {p : List ℕ} {w h lent : ℕ} {T : Table} (W : InWork p w h lent T) (s : Marks) (L : search.Laid s) {q : List ℕ} where
   placed : (f : Finding (List CapStone)) → search.outcome s ≡ f → Searches w h (allCuts p w h) p T [] f q (s .table) → Stones (s .stones) (s .n)
-  unfolding search.countIn
+  unfolding laid.countIn
   placed (found l) e S =
       let F = found-stones W S in
-      let n : s .n ≡ length l = L .count ∙ ap search.countIn e in
+      let n : s .n ≡ length l = L .count ∙ ap laid.countIn e in
       let is : take (s .n) (s .stones) ≡ l = stands (s .verdict) (take (s .n) (s .stones)) l e in
       record {
         few = L .few;
         each = λ k low. rw (sym (getD-take (s .n) (s .stones) k noStone low) ∙ ap (λ (v : List CapStone). getD v k noStone) is) (F .each k (omega (arith, n)));
       }
-  placed (refused n) e S = let none : s .n ≡ 0 = L .count ∙ ap search.countIn e in record { few = L .few; each = λ k low. absurd (omega (arith, none)) }
+  placed (refused n) e S = let none : s .n ≡ 0 = L .count ∙ ap laid.countIn e in record { few = L .few; each = λ k low. absurd (omega (arith, none)) }
 
   pub array-stones : Searches w h (allCuts p w h) p T [] (search.outcome s) q (s .table) → Stones (s .stones) (s .n)
   array-stones = placed (search.outcome s) refl
-
-same-told : (v : Verdict) (k l : List Trio) → told v k ≡ found l → k ≡ l
-unfolding told
-same-told Sound k l e = cc
-same-told (Refused why) k l e = let z : _≡_ {A = ℕ} 0 1 = cc in absurd (omega arith)
 
 -- a group of placed stones can be fitted
 pub ready-of : {stones : List CapStone} {n : ℕ} (t : Trio) → Stones stones n → Low n t → Ready stones t
@@ -106,9 +100,9 @@ all-ready groups m whole S N k low =
 -- the groups found name stones of the list; after a refusal there are none
 module _ {p : List ℕ} {w h : ℕ} {T : Table} {stones : List CapStone} (s : Groupings) (L : Laid s) where
   named : (f : Finding (List Trio)) → outcome s ≡ f → Grouped p w h T stones f → Named (length stones) (groupsOf s)
-  unfolding countIn
-  named (found l) e G t m = groups-low G t (rw (sym (same-told (s .verdict) (groupsOf s) l e)) m)
-  named (refused n) e G t m = let none : s .n ≡ 0 = L .count ∙ ap countIn e in absurd (rw none at m)
+  unfolding laid.countIn
+  named (found l) e G t m = groups-low G t (rw (sym (stands (s .verdict) (groupsOf s) l e)) m)
+  named (refused n) e G t m = let none : s .n ≡ 0 = L .count ∙ ap laid.countIn e in absurd (rw none at m)
 
   pub array-named : Grouped p w h T stones (outcome s) → Named (length stones) (groupsOf s)
   array-named = named (outcome s) refl

@@ -5,10 +5,8 @@ use mathlib.Core.Path.{_≡_, refl, sym, ap, _∙_, subst}
 use mathlib.Core.List.{List}
 use lib.ListN.{length}
 use Rattle.refusals.specs.Finding.{Finding}
-use Rattle.refusals.proofs.Distinct.{refusal-only}
 use Rattle.picture.specs.Sides.{Roomy}
-use Rattle.picture.specs.declared.Verdict.{Verdict}
-use Rattle.picture.specs.declared.Verdict.the-variants.{Sound, Refused}
+use Rattle.laid.proofs.Same.{laid-same}
 use Rattle.table.specs.declared.Table.{Table}
 use Rattle.table.proofs.Kept.{Proper, proper-copy}
 use Rattle.capstones.specs.declared.CapStone.{CapStone}
@@ -23,7 +21,7 @@ use Rattle.fit.proofs.Determined.{fits-same}
 use Rattle.groupings.specs.Trial.{Trial}
 use Rattle.groupings.specs.Used.{trioOf}
 use Rattle.groupings.specs.Groups.{afterTrial, PairTried, passed-over, on-trial, PairsTried, no-pair-left, next-pair, pair-refused, CentreTried, used-before, with-pairs, CentresTried, no-centre-left, next-centre, centre-refused, Grouped}
-use Rattle.groupings.specs.Held.{groupsOf, told, outcome, laidOut, countIn, Laid, Stones}
+use Rattle.groupings.specs.Held.{mostGroups, noTrio, outcome, Laid, Stones}
 use Rattle.groupings.specs.declared.Trio.{Trio}
 use Rattle.groupings.specs.declared.Groupings.{Groupings}
 use Rattle.groupings.proofs.Few.{same-groups}
@@ -73,18 +71,9 @@ module _ {p : List ℕ} {w h lent : ℕ} {T : Table} (R : Roomy w h (length p) l
     pub grouped-same : {f g : Finding (List Trio)} → Grouped p w h T stones f → Grouped p w h T stones g → f ≡ g
     grouped-same = centres-same {left = length stones} {idx = 0} (omega arith)
 
--- a verdict and groups that are told the same are the same verdict
-verdict-only : (u v : Verdict) (k l : List Trio) → told u k ≡ told v l → u ≡ v
-unfolding told
-verdict-only Sound Sound k l e = refl
-verdict-only Sound (Refused b) k l e = let z : _≡_ {A = ℕ} 0 1 = cc in absurd (omega arith)
-verdict-only (Refused a) Sound k l e = let z : _≡_ {A = ℕ} 0 1 = cc in absurd (omega arith)
-verdict-only (Refused a) (Refused b) k l e = ap Refused (refusal-only {a = a} {b = b} e)
-
 -- groups of one outcome are held in one way
 pub same-held : (s t : Groupings) → outcome s ≡ outcome t → Laid s → Laid t → (s .groups ≡ t .groups) × (s .n ≡ t .n) × (s .verdict ≡ t .verdict)
-same-held s t e X Y =
-    (X .groups ∙ ap laidOut e ∙ sym (Y .groups), X .count ∙ ap countIn e ∙ sym (Y .count), verdict-only (s .verdict) (t .verdict) (groupsOf s) (groupsOf t) e)
+same-held s t e X Y = let same = laid-same mostGroups noTrio e X Y in (same .2, same .1, same .0)
 
 -- so what a search for groups finds is determined; what it remembers is no finding
 pub groupings-determined : {p : List ℕ} {w h lent : ℕ} {T : Table} {stones : List CapStone} → Roomy w h (length p) lent → Proper T w h → Stones stones (length stones)

@@ -2,16 +2,15 @@
 use Prim.Native.Nat.{ℕ, suc, _+_, _-_, _≤_, _<_}
 use native.Mathlib.Numerals.{add-one}
 use native.Mathlib.Omega.{arith}
-use mathlib.Core.Path.{_≡_, refl, sym, ap, _∙_, subst}
+use mathlib.Core.Path.{_≡_, sym, ap, _∙_, subst}
 use mathlib.Core.Bool.{true, false}
 use mathlib.Core.List.{List, [], _∷_}
 use lib.ListN.{length, getD, take, drop}
 use lib.Seq.{drop-cons, drop-length, getD-take, length-take-le}
 use Rattle.refusals.specs.Limits.{mostStones}
-use Rattle.refusals.specs.Numbers.{numberOf}
 use Rattle.refusals.specs.Finding.{Finding, found, refused}
-use Rattle.picture.specs.declared.Verdict.{Verdict}
-use Rattle.picture.specs.declared.Verdict.the-variants.{Sound, Refused}
+use Rattle.laid.specs.Laid.{goes, countIn}
+use Rattle.laid.proofs.Standing.{held-count, goes-holds, stops-refused}
 use Rattle.table.specs.declared.Table.{Table}
 use Rattle.capstones.specs.declared.CapStone.{CapStone}
 use Rattle.match_capstones.specs.Answer.{noPair}
@@ -19,28 +18,10 @@ use Rattle.match_capstones.specs.Proper.{Proper}
 use Rattle.match_capstones.specs.declared.Pair.{Pair}
 use Rattle.groupings.specs.Used.{pairUsed}
 use Rattle.groupings.specs.Groups.{PairTried, PairsTried, no-pair-left, next-pair, pair-refused, CentreTried, CentresTried, no-centre-left, next-centre, centre-refused, Grouped}
-use Rattle.groupings.specs.Held.{mostGroups, groupsOf, told, goes, outcome, countIn, Laid, Holds, Counted, Beside, Triable}
+use Rattle.groupings.specs.Held.{mostGroups, noTrio, groupsOf, outcome, Laid, Holds, Counted, Beside, Triable}
 use Rattle.groupings.specs.declared.Trio.{Trio}
 use Rattle.groupings.specs.declared.Groupings.{Groupings}
-use Rattle.groupings.proofs.Array.{going-count}
 use Rattle.groupings.proofs.Few.{counted-none, pair-room, pair-counted, centre-counted}
-
--- nothing is refused: the groups are found
-told-found : (v : Verdict) (l : List Trio) → goes v ≡ true → told v l ≡ found l
-unfolding goes told
-told-found Sound l e = refl
-told-found (Refused why) l e = let z : _≡_ {A = ℕ} 0 1 = cc in absurd (omega arith)
-
-told-refused : (v : Verdict) (l : List Trio) → goes v ≡ false → (n : ℕ) × (told v l ≡ refused n)
-unfolding goes told
-told-refused Sound l e = let z : _≡_ {A = ℕ} 0 1 = cc in absurd (omega arith)
-told-refused (Refused why) l e = (numberOf why, refl)
-
-pub goes-found : (s : Groupings) → goes (s .verdict) ≡ true → outcome s ≡ found (groupsOf s)
-goes-found s e = told-found (s .verdict) (groupsOf s) e
-
-pub stops-refused : (s : Groupings) → goes (s .verdict) ≡ false → (n : ℕ) × (outcome s ≡ refused n)
-stops-refused s e = told-refused (s .verdict) (groupsOf s) e
 
 -- k pairs are tried, and nothing is refused: what the others come to, all come to
 pub record AfterPairs (p : List ℕ) (w h : ℕ) (T : Table) (stones : List CapStone) (idx : ℕ) (pairs : List Pair) (start : List Trio) (k : ℕ) (s : Groupings) : Type 0 where
@@ -64,23 +45,24 @@ module _ {p : List ℕ} {w h : ℕ} {T : Table} {stones : List CapStone} {idx : 
 
       pub pairs-stop : goes (r .verdict) ≡ false → PairsTried p w h T stones idx pairs start (outcome r)
       pairs-stop stops =
-          let n = stops-refused r stops in
+          let n = stops-refused mostGroups noTrio (r .verdict) (groupsOf r) stops in
           let Y : PairTried p w h T stones idx (getD pairs k noPair) (groupsOf s) (refused (n .0)) = rw (n .1) at X in
           rw (n .1) (A .leads (refused (n .0)) (rw one-first (pair-refused Y)))
 
       pub pairs-next : Triable stones idx (getD pairs k noPair) → Laid r → goes (r .verdict) ≡ true → AfterPairs p w h T stones idx pairs start (k + 1) r
       pairs-next P L on =
-          let g = goes-found r on in
+          let H = goes-holds mostGroups noTrio L on in
+          let g = H .going in
           let Y : PairTried p w h T stones idx (getD pairs k noPair) (groupsOf s) (found (groupsOf r)) = subst (PairTried p w h T stones idx (getD pairs k noPair) (groupsOf s)) g X in
           record {
-            holds = record { laid = L; going = g };
+            holds = H;
             beside = pair-counted (A .beside) (P .proper) Y;
             leads = λ f S. A .leads f (rw one-first (next-pair Y (rw add-one at S)));
           }
 
 -- there is room for a group more
-pub held-room : {s : Groupings} {idx : ℕ} {pair : Pair} → Holds s → Beside mostStones idx (groupsOf s) → Proper mostStones idx pair → pairUsed (groupsOf s) pair ≡ false → s .n < mostGroups
-held-room H B P free = omega (arith, going-count (H .laid) (H .going), pair-room B P free)
+pub held-room : (s : Groupings) {idx : ℕ} {pair : Pair} → Holds s → Beside mostStones idx (groupsOf s) → Proper mostStones idx pair → pairUsed (groupsOf s) pair ≡ false → s .n < mostGroups
+held-room s H B P free = omega (arith, held-count mostGroups noTrio H, pair-room B P free)
 
 -- the pairs are the first of an array
 module _ {p : List ℕ} {w h : ℕ} {T : Table} {stones : List CapStone} {idx : ℕ} (all : List Pair) (count : ℕ) (whole : count ≤ length all) {start : List Trio} {k : ℕ} {s : Groupings} (A : AfterPairs p w h T stones idx (take count all) start k s) where
@@ -129,16 +111,17 @@ module _ {p : List ℕ} {w h : ℕ} {T : Table} {stones : List CapStone} where
 
       pub centres-stop : goes (r .verdict) ≡ false → Grouped p w h T stones (outcome r)
       centres-stop stops =
-          let n = stops-refused r stops in
+          let n = stops-refused mostGroups noTrio (r .verdict) (groupsOf r) stops in
           let Y : CentreTried p w h T stones idx (groupsOf s) (refused (n .0)) = rw (n .1) at X in
           rw (n .1) (A .leads (refused (n .0)) (rw one-left (centre-refused Y)))
 
       pub centres-next : Laid r → goes (r .verdict) ≡ true → AfterCentres p w h T stones (idx + 1) r
       centres-next L on =
-          let g = goes-found r on in
+          let H = goes-holds mostGroups noTrio L on in
+          let g = H .going in
           let Y : CentreTried p w h T stones idx (groupsOf s) (found (groupsOf r)) = subst (CentreTried p w h T stones idx (groupsOf s)) g X in
           record {
-            holds = record { laid = L; going = g };
+            holds = H;
             counted = centre-counted low (A .counted) Y;
             leads = λ f S. A .leads f (rw one-left (next-centre Y (rw add-one at S)));
           }

@@ -1,5 +1,4 @@
 mod Uses
-mod Array
 pub mod Few
 pub mod Copy
 pub mod Front

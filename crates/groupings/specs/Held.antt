@@ -1,14 +1,13 @@
 -- How groups are held in an array of 31 (document 01, "arrays of 64 stones, 992 pairs, 31 groups"), what is asked of stones, and how groups are counted. Definitions alone.
 use Prim.Native.Nat.{ℕ, _+_, _-_, _≤_, _<_}
 use mathlib.Core.Path.{_≡_}
-use mathlib.Core.Bool.{Bool, true, false}
-use mathlib.Core.List.{List, _++_}
-use lib.ListN.{length, getD, take, replicate}
+use mathlib.Core.Bool.{true}
+use mathlib.Core.List.{List}
+use lib.ListN.{length, getD, take}
 use Rattle.refusals.specs.Limits.{mostStones}
-use Rattle.refusals.specs.Finding.{Finding, found, refused, refusedBy}
+use Rattle.refusals.specs.Finding.{Finding}
 use Rattle.points.specs.Range.{Near}
-use Rattle.picture.specs.declared.Verdict.{Verdict}
-use Rattle.picture.specs.declared.Verdict.the-variants.{Sound, Refused}
+use Rattle.laid.specs.Laid as laid
 use Rattle.pieces.specs.Count.{Mem, Distinct}
 use Rattle.capstones.specs.Blank.{noStone}
 use Rattle.capstones.specs.declared.CapStone.{CapStone}
@@ -31,40 +30,17 @@ noTrio = record { first = 0; second = 0; third = 0 }
 abbrev pub groupsOf : Groupings → List Trio
 groupsOf s = take (s .n) (s .groups)
 
--- what a verdict makes of groups: they are found, or there is a refusal and nothing else
-unfoldable pub told : Verdict → List Trio → Finding (List Trio)
-told Sound l = found l
-told (Refused why) l = refusedBy why
-
--- whether nothing is refused
-unfoldable pub goes : Verdict → Bool
-goes Sound = true
-goes (Refused why) = false
-
--- what a search for groups comes to
+-- what a search for groups comes to: the groups, or a refusal
 abbrev pub outcome : Groupings → Finding (List Trio)
-outcome s = told (s .verdict) (groupsOf s)
+outcome s = laid.outcome mostGroups noTrio (s .verdict) (s .n) (s .groups)
 
--- how an outcome is laid out: the groups and blanks past them, or blanks alone
-unfoldable pub laidOut : Finding (List Trio) → List Trio
-laidOut (found l) = l ++ replicate (mostGroups - length l) noTrio
-laidOut (refused n) = replicate mostGroups noTrio
+-- they are laid out in an array of 31
+abbrev pub Laid : Groupings → Type 0
+Laid s = laid.Laid mostGroups noTrio (s .verdict) (s .n) (s .groups)
 
--- how many groups an outcome has
-unfoldable pub countIn : Finding (List Trio) → ℕ
-countIn (found l) = length l
-countIn (refused n) = 0
-
--- an array of 31 and a count are laid out so
-pub record Laid (s : Groupings) : Type 0 where
-  pub few : s .n ≤ mostGroups
-  pub count : s .n ≡ countIn (outcome s)
-  pub groups : s .groups ≡ laidOut (outcome s)
-
--- groups are held, and nothing is refused so far
-pub record Holds (s : Groupings) : Type 0 where
-  pub laid : Laid s
-  pub going : outcome s ≡ found (groupsOf s)
+-- and nothing is refused so far
+abbrev pub Holds : Groupings → Type 0
+Holds s = laid.Holds mostGroups noTrio (s .verdict) (s .n) (s .groups)
 
 -- a stone as the search for marks makes them: its corners are a picture's, its centre is near
 pub record Placed (s : CapStone) : Type 0 where

@@ -12,11 +12,12 @@ ghost use mathlib.Core.List.{List, [], _∷_, _++_};
 ghost use Prim.Native.Nat.{ℕ, _≤_, _<_};
 ghost use lib.ListN.{set, replicate};
 ghost use Rattle.refusals.specs.Finding.{found, refusedBy};
+ghost use Rattle.laid.specs.Laid.{goes};
 ghost use Rattle.grids.specs.Grid.{meaning};
 ghost use Rattle.setups.specs.Remember.{noSetup, Remembers, AllRemember};
 ghost use Rattle.groupings.specs.Used.{names, isUsed};
 ghost use Rattle.groupings.specs.Groups.{afterTrial};
-ghost use Rattle.groupings.specs.Held.{groupsOf, goes, outcome, Laid, Holds};
+ghost use Rattle.groupings.specs.Held.{groupsOf, outcome, Laid, Holds};
 
 // Whether a trio names stone i.
 fn has(t: Trio, i: usize) -> bool

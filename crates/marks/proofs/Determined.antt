@@ -6,10 +6,9 @@ use mathlib.Core.Bool.{Bool, _&&_}
 use mathlib.Core.List.{List, [], _++_}
 use mathlib.Core.Logic.{inl, inr}
 use lib.Dec.{eqb}
+use Rattle.refusals.specs.Limits.{mostStones}
 use Rattle.refusals.specs.Finding.{Finding, found, refused}
-use Rattle.refusals.proofs.Distinct.{refusal-only}
-use Rattle.picture.specs.declared.Verdict.{Verdict}
-use Rattle.picture.specs.declared.Verdict.the-variants.{Sound, Refused}
+use Rattle.laid.proofs.Same.{laid-same}
 use Rattle.pieces.specs.Picture.{px}
 use Rattle.pieces.specs.Count.{Mem}
 use Rattle.pieces.proofs.Paints.{paints-unique}
@@ -25,11 +24,12 @@ use Rattle.regions.specs.Lookup.{Looks, answers}
 use Rattle.regions.proofs.Accepted.{lookable-passes}
 use Rattle.regions.proofs.Unique.{Alike, post-unique}
 use Rattle.scanner.specs.declared.LinePosition.{LinePosition}
+use Rattle.capstones.specs.Blank.{noStone}
 use Rattle.capstones.specs.declared.CapStone.{CapStone}
 use Rattle.marks.specs.InWork.{InWork, AtCut}
 use Rattle.marks.specs.Ring.{paired, Tests}
 use Rattle.marks.specs.Stone.{stoneOf, firstCorner, Ringed, Rings, Creates}
-use Rattle.marks.specs.Search.{Tries, no-ring, ring, Place, allCuts, Searches, finished, tried, stopped, stonesOf, told, outcome, laidOut, countIn, Laid}
+use Rattle.marks.specs.Search.{Tries, no-ring, ring, Place, allCuts, Searches, finished, tried, stopped, outcome, Laid}
 use Rattle.marks.specs.OfBitmap.{OfBitmap, refuses, searches}
 use Rattle.marks.specs.declared.search.Marks.{Marks}
 use Rattle.marks.proofs.Cut.{ring-lookable, stone-lookable, tests-ringed}
@@ -105,21 +105,11 @@ search-same W each (stopped {at = at} X) (tried Y R) =
     let z : _≡_ {A = ℕ} 0 1 = cc in absurd (omega arith)
 search-same W each (stopped {at = at} X) (stopped Y) = let A = each at (inl refl) in tries-same (record { work = W; in-y = A .in-y; columns = A .columns }) X Y
 
--- a verdict and stones that are told the same are the same verdict
-verdict-only : (u v : Verdict) (k l : List CapStone) → told u k ≡ told v l → u ≡ v
-unfolding told
-verdict-only Sound Sound k l e = refl
-verdict-only Sound (Refused b) k l e = let z : _≡_ {A = ℕ} 0 1 = cc in absurd (omega arith)
-verdict-only (Refused a) Sound k l e = let z : _≡_ {A = ℕ} 0 1 = cc in absurd (omega arith)
-verdict-only (Refused a) (Refused b) k l e = ap Refused (refusal-only {a = a} {b = b} e)
-
 -- marks of one outcome and one table are the same
 same-marks : (s t : Marks) → outcome s ≡ outcome t → s .table ≡ t .table → Laid s → Laid t → s ≡ t
 same-marks s t e table X Y =
-    let stones = X .stones ∙ ap laidOut e ∙ sym (Y .stones) in
-    let n = X .count ∙ ap countIn e ∙ sym (Y .count) in
-    let verdict = verdict-only (s .verdict) (t .verdict) (stonesOf s) (stonesOf t) e in
-    λ i. record { stones = stones i; n = n i; table = table i; verdict = verdict i }
+    let same = laid-same mostStones noStone e X Y in
+    λ i. record { stones = same .2 i; n = same .1 i; table = table i; verdict = same .0 i }
 
 -- what a search comes to, the picture and the table are determined
 pub searches-same : {p : List ℕ} {w h lent : ℕ} {T : Table} {f g : Finding (List CapStone)} {q r : List ℕ} {U Z : Table}

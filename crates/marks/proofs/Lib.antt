@@ -3,7 +3,6 @@ pub mod Plain
 pub mod Work
 pub mod Cut
 pub mod Fills
-pub mod Array
 pub mod Lines
 pub mod Searching
 pub mod Whole

@@ -20,6 +20,8 @@ use Rattle.geometry.specs.declared.Perspective.{Perspective}
 use Rattle.geometry.specs.declared.Sight.{Sight}
 use Rattle.geometry.specs.declared.Sight.the-variants.{Made, Flat}
 use Rattle.stated.specs.Stated.{near}
+use Rattle.laid.specs.Laid.{told, added}
+use Rattle.laid.proofs.Standing.{held-count}
 use Rattle.pieces.specs.Count.{Mem}
 use Rattle.table.specs.declared.Table.{Table}
 use Rattle.scanner.specs.Edges.{dark}
@@ -31,6 +33,7 @@ use Rattle.scanner.proofs.Dark.{OnDark, line-dark}
 use Rattle.scanner.proofs.Ahead.{begun-on}
 use Rattle.scanner.proofs.Alike.{ahead-alike, line-alike}
 use Rattle.corners.specs.declared.all_corners.AllCornerFinder.{AllCornerFinder}
+use Rattle.capstones.specs.Blank.{noStone}
 use Rattle.capstones.specs.Modules.{seven, middle}
 use Rattle.capstones.specs.declared.CapStone.{CapStone}
 use Rattle.marks.specs.InWork.{InWork, AtCut}
@@ -38,12 +41,11 @@ use Rattle.marks.specs.Stone.{placedStone, centredStone, seenStone, ston
 use Rattle.marks.specs.Cuts.{Place, placesOn, cutsFrom, allCuts, cutsAfter, Reaches, next-cut, no-cut}
 use Rattle.marks.specs.declared.cuts.Cutting.{Cutting}
 use Rattle.marks.specs.declared.cuts.Cutting.the-variants.{At, Done}
-use Rattle.marks.specs.Search.{Tries, no-ring, ring, Searches, finished, tried, stopped, stonesOf, told, outcome, Laid}
+use Rattle.marks.specs.Search.{Tries, no-ring, ring, Searches, finished, tried, stopped, stonesOf, outcome, Laid}
 use Rattle.marks.specs.declared.search.Marks.{Marks}
 use Rattle.marks.proofs.Work.{Goes, goes-on, goes-still}
 use Rattle.marks.proofs.Cut.{tests-go, tests-ringed}
 use Rattle.marks.proofs.Fills.{rings-go}
-use Rattle.marks.proofs.Array.{going-count}
 use Rattle.marks.proofs.Lines.{from-begun}
 
 -- a stone is found only where there is room for it
@@ -76,11 +78,6 @@ pub tries-fit : {p : List ℕ} {w h y : ℕ} {cut : LinePosition} {T : Table} {n
 tries-fit (no-ring X e) g = let z : _≡_ {A = ℕ} 0 1 = cc in absurd (omega arith)
 tries-fit {n = n} {stone = stone} (ring m X K) g = stone-room (K .corners) n stone (sym (K .is) ∙ g)
 
--- stones, and what one cut more adds
-unfoldable added : List CapStone → Finding (List CapStone) → Finding (List CapStone)
-added l (found new) = found (l ++ new)
-added l (refused n) = refused n
-
 -- a cut of line y is tried, and what it comes to is taken
 pub record Takes (p : List ℕ) (w h y : ℕ) (cut : LinePosition) (s : Marks) (q : List ℕ) (r : Marks) : Type 0 where
   finding : Finding (List CapStone)
@@ -91,9 +88,6 @@ pub record Takes (p : List ℕ) (w h y : ℕ) (cut : LinePosition) (s : Marks) (
 -- the stones stand as they did beside another table
 abbrev pub withTable : Marks → Table → Marks
 withTable s U = record { stones = s .stones; n = s .n; table = U; verdict = s .verdict }
-
-pub still-laid : {s : Marks} (U : Table) → Laid s → Laid (withTable s U)
-still-laid U L = record { few = L .few; count = L .count; stones = L .stones }
 
 -- what each case of a mark makes of a search: a stone more, the table alone, or a refusal
 module _ {p : List ℕ} {w h y : ℕ} {cut : LinePosition} {s : Marks} {f : Finding (List CapStone)} {q : List ℕ} {U : Table} (X : Tries p w h y cut (s .table) (s .n) f q U) where
@@ -108,7 +102,7 @@ module _ {p : List ℕ} {w h y : ℕ} {cut : LinePosition} {s : Marks} {f : Find
 
   pub takes-nothing : f ≡ found [] → Laid s → outcome s ≡ found (stonesOf s) → Takes p w h y cut s q (withTable s U)
   unfolding added
-  takes-nothing e L going = takes-as (found []) e (rw append-nil going, still-laid U L, refl)
+  takes-nothing e L going = takes-as (found []) e (rw append-nil going, L, refl)
 
   pub takes-refusal : {r : Marks} {n : ℕ} → f ≡ refused n → (outcome r ≡ refused n) × Laid r × (r .table ≡ U) → Takes p w h y cut s q r
   unfolding added
@@ -240,7 +234,7 @@ module _ {p0 : List ℕ} {w h : ℕ} where
       module _ {q : List ℕ} {r : Marks} (C : Reaches p w h y scan (At line at next)) (K : Takes p w h line at s q r) where
         -- the cut is tried after as many stones as there are
         counted : {f : Finding (List CapStone)} → Tries p w h line at (s .table) (s .n) f q (r .table) → Tries p w h line at (s .table) (length (stonesOf s)) f q (r .table)
-        counted {f} X = subst (λ (n : ℕ). Tries p w h line at (s .table) n f q (r .table)) (going-count (A .laid) (A .going)) X
+        counted {f} X = subst (λ (n : ℕ). Tries p w h line at (s .table) n f q (r .table)) (held-count mostStones noStone (record { laid = A .laid; going = A .going })) X
 
         pub over-stops : (n : ℕ) → outcome r ≡ refused n → Searches w h (allCuts p0 w h) p0 T0 [] (outcome r) q (r .table)
         unfolding added

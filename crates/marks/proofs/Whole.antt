@@ -7,6 +7,7 @@ use mathlib.Core.Logic.{⊎-elim}
 use lib.ListN.{length}
 use Rattle.refusals.specs.Limits.{mostStones}
 use Rattle.refusals.specs.Finding.{Finding, found}
+use Rattle.laid.specs.Laid.{countIn}
 use Rattle.pieces.specs.Count.{Mem}
 use Rattle.pieces.proofs.Counting.{mem-either}
 use Rattle.table.specs.declared.Table.{Table}
@@ -14,7 +15,7 @@ use Rattle.scanner.specs.Cuts.{lineCuts}
 use Rattle.capstones.specs.declared.CapStone.{CapStone}
 use Rattle.marks.specs.InWork.{InWork}
 use Rattle.marks.specs.Cuts.{Place, placesOn, cutsFrom, allCuts}
-use Rattle.marks.specs.Search.{Searches, outcome, countIn, Laid}
+use Rattle.marks.specs.Search.{Searches, outcome, Laid}
 use Rattle.marks.specs.declared.search.Marks.{Marks}
 use Rattle.marks.proofs.Work.{Goes}
 use Rattle.marks.proofs.Searching.{Stands, line-stands, search-goes}

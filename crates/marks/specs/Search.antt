@@ -1,13 +1,12 @@
 -- The search for marks, cut by cut: document 01, "Marks". Definitions alone.
-use Prim.Native.Nat.{ℕ, _-_, _≤_}
+use Prim.Native.Nat.{ℕ}
 use mathlib.Core.Path.{_≡_}
 use mathlib.Core.Bool.{true, false}
 use mathlib.Core.List.{List, [], _∷_, _++_}
-use lib.ListN.{length, take, replicate}
+use lib.ListN.{length, take}
 use Rattle.refusals.specs.Limits.{mostStones}
-use Rattle.refusals.specs.Finding.{Finding, found, refused, refusedBy}
-use Rattle.picture.specs.declared.Verdict.{Verdict}
-use Rattle.picture.specs.declared.Verdict.the-variants.{Sound, Refused}
+use Rattle.refusals.specs.Finding.{Finding, found, refused}
+use Rattle.laid.specs.Laid as laid
 use Rattle.table.specs.declared.Table.{Table}
 use Rattle.scanner.specs.declared.LinePosition.{LinePosition}
 use Rattle.capstones.specs.Blank.{noStone}
@@ -45,25 +44,10 @@ pub data Searches (w h : ℕ) : List Place → List ℕ → Table → List CapSt
 abbrev pub stonesOf : Marks → List CapStone
 stonesOf s = take (s .n) (s .stones)
 
--- what a verdict makes of stones: they are found, or there is a refusal and nothing else
-unfoldable pub told : Verdict → List CapStone → Finding (List CapStone)
-told Sound l = found l
-told (Refused why) l = refusedBy why
-
+-- what a search comes to: its stones, or a refusal
 abbrev pub outcome : Marks → Finding (List CapStone)
-outcome s = told (s .verdict) (stonesOf s)
+outcome s = laid.outcome mostStones noStone (s .verdict) (s .n) (s .stones)
 
--- how an outcome is laid out: the stones and blanks past them, or blanks alone
-unfoldable pub laidOut : Finding (List CapStone) → List CapStone
-laidOut (found l) = l ++ replicate (mostStones - length l) noStone
-laidOut (refused n) = replicate mostStones noStone
-
-unfoldable pub countIn : Finding (List CapStone) → ℕ
-countIn (found l) = length l
-countIn (refused n) = 0
-
--- an array of 64 and a count are laid out so
-pub record Laid (s : Marks) : Type 0 where
-  pub few : s .n ≤ mostStones
-  pub count : s .n ≡ countIn (outcome s)
-  pub stones : s .stones ≡ laidOut (outcome s)
+-- they are laid out in an array of 64
+abbrev pub Laid : Marks → Type 0
+Laid s = laid.Laid mostStones noStone (s .verdict) (s .n) (s .stones)

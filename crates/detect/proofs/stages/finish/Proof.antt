@@ -2,7 +2,8 @@
 use mathlib.Core.Path.{_≡_, refl, ap}
 use borrow.Author.Needs.{needs}
 use Rattle.picture.specs.declared.Verdict.{Verdict}
-use Rattle.groupings.specs.Held.{groupsOf, told}
+use Rattle.laid.specs.Laid.{told}
+use Rattle.groupings.specs.Held.{groupsOf}
 use Rattle.detect.specs.Stages.{ungrouped}
 use Rattle.detect.proofs.Ready.{marks-long, groups-long, all-ready}
 use Rattle.detect.proofs.Staged.{finish-fits}

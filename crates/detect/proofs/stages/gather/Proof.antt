@@ -4,7 +4,8 @@ use Prim.Native.Nat.{ℕ}
 use lib.Seq.{length-take-le}
 use borrow.Author.Needs.{needs}
 use Rattle.picture.specs.declared.Verdict.{Verdict}
-use Rattle.marks.specs.Search.{stonesOf, told}
+use Rattle.laid.specs.Laid.{told}
+use Rattle.marks.specs.Search.{stonesOf}
 use Rattle.groupings.specs.Held.{groupsOf}
 use Rattle.groupings.proofs.Copy.{still-workable}
 use Rattle.detect.specs.Stages.{Named, unmarked, grouped}

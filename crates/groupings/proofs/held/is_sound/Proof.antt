@@ -1,6 +1,6 @@
 -- `is_sound` tells the two verdicts apart. Assumes nothing.
 use borrow.Author.Needs.{needs}
-use Rattle.groupings.specs.Held.{goes}
+use Rattle.laid.specs.Laid.{goes}
 use Rattle.groupings.proofs.held.is_sound.Statement.{statement}
 use Rattle.groupings.proofs.held.is_sound.Tie as tie
 

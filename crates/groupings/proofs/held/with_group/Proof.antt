@@ -1,8 +1,8 @@
 -- `with_group` puts a group behind the others. Assumes nothing.
-use native.Mathlib.Omega.{arith}
 use mathlib.Core.Path.{refl}
 use borrow.Author.Needs.{needs}
-use Rattle.groupings.proofs.Array.{laid-found, one-more, count-more}
+use Rattle.laid.proofs.Standing.{with-one}
+use Rattle.groupings.specs.Held.{mostGroups, noTrio}
 use Rattle.groupings.proofs.held.with_group.Statement.{statement}
 use Rattle.groupings.proofs.held.with_group.Tie as tie
 
@@ -24,9 +24,7 @@ add-t7 c = search needs
 returns : tie.Need-returns
 returns c =
     let s = c .before .before .pre in
-    let H = s .0 in
-    let t = c .before .before .args .t in
-    let L = laid-found _ _ (count-more (H .laid) (H .going) t) (omega (arith, s .1)) refl (one-more (H .laid) (H .going) t (s .1)) in
+    let L = with-one mostGroups noTrio (s .0) (c .before .before .args .t) (s .1) in
     (L .0, L .1, refl)
 
 pub with-group-spec : {M : Type 1} → statement M

@@ -42,7 +42,7 @@ taken-requires : tie.Need-taken-requires
 taken-requires c κs =
     let s = c .before .before .before .before .before .before .before .before .before .before .before .before .before .before .before in
     let free = neither-used (groupsOf (s .args .held)) (s .args .pair) (sym (c .before .before .before .before .before .before .before .before .before .before .before .is-used .ensures) ∙ c .before .before .before .before .before .before .before .before .before .before .if1 .left) (sym (c .before .before .before .before .before .before .before .before .before .is-used2 .ensures) ∙ c .before .before .before .before .before .before .before .before .if2 .left) in
-    (s .pre .3, held-room (s .pre .3) (s .pre .4) (s .pre .2 .proper) free)
+    (s .pre .3, held-room (s .args .held) (s .pre .3) (s .pre .4) (s .pre .2 .proper) free)
 
 same-length : tie.Need-same-length
 same-length c = search needs

@@ -7,7 +7,7 @@ use borrow.Author.Needs.{needs}
 use Rattle.marks.specs.Cuts.{cutsAfter}
 use Rattle.marks.specs.Stone.{meaning}
 use Rattle.marks.proofs.Cut.{ring-lookable, stone-lookable, markable, tries-of}
-use Rattle.marks.proofs.Searching.{Over, reached, found-stones, still-laid, tries-fit, takes-stone, takes-nothing, takes-refusal, over-begun, over-ends, over-less, over-asks, over-stops, over-next}
+use Rattle.marks.proofs.Searching.{Over, reached, found-stones, tries-fit, takes-stone, takes-nothing, takes-refusal, over-begun, over-ends, over-less, over-asks, over-stops, over-next}
 use Rattle.marks.proofs.Whole.{all-stand}
 use Rattle.marks.proofs.search.capstones_from_image.Statement.{statement}
 use Rattle.marks.proofs.search.capstones_from_image.Tie as tie
@@ -89,7 +89,7 @@ with-stone-requires c κs =
     let first = second .before .before .before .before .before .before .before .before in
     let met = first .before .before .before .before in
     let A = met .before .before .before .before .loop .inv .0 in
-    (still-laid _ (A .laid), A .going, tries-fit (tries-of (first .get-region .ensures) (second .get-region2 .ensures) (third .mark-at .ensures)) (ap meaning (c .before .found .given .1)))
+    (A .laid, A .going, tries-fit (tries-of (first .get-region .ensures) (second .get-region2 .ensures) (third .mark-at .ensures)) (ap meaning (c .before .found .given .1)))
 
 enum-told-2 : tie.Need-enum-told-2 Inv-loop μ-loop
 enum-told-2 c = search needs

@@ -3,8 +3,10 @@ use mathlib.Core.Path.{refl}
 use mathlib.Core.List.{[]}
 use lib.Dec.{lit≤}
 use borrow.Author.Needs.{needs}
-use Rattle.marks.specs.Search.{laidOut}
-use Rattle.marks.proofs.Array.{laid-found}
+use Rattle.refusals.specs.Limits.{mostStones}
+use Rattle.laid.specs.Laid.{laidOut}
+use Rattle.laid.proofs.Standing.{laid-found}
+use Rattle.capstones.specs.Blank.{noStone}
 use Rattle.marks.proofs.search.no_marks.Statement.{statement}
 use Rattle.marks.proofs.search.no_marks.Tie as tie
 
@@ -13,7 +15,7 @@ blanks-requires c κs = search needs
 
 returns : tie.Need-returns
 unfolding laidOut
-returns c = let L = laid-found _ [] refl (lit≤ tt) refl (c .blanks .ensures) in (L .0, L .1, refl)
+returns c = let L = laid-found mostStones noStone 0 _ [] refl (lit≤ tt) (c .blanks .ensures) in (L .0, L .1, refl)
 
 pub no-marks-spec : {M : Type 1} → statement M
 no-marks-spec = tie.close (tie.spec blanks-requires returns)
