@@ -1,12 +1,12 @@
 // The located grids, one after the other.
 use crate::Grids;
-use crate::held::is_sound;
 use crate::held::no_grids;
 use crate::held::refused;
 use crate::held::with_grid;
 use bounds::Bounded;
 use bounds::bounds_of;
 use grids::SkewedGridLocation;
+use laid::is_sound;
 use refusals::Refusal;
 ghost use mathlib.Core.Path.{_≡_};
 ghost use Prim.Native.Nat.{_≤_, _<_};

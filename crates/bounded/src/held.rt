@@ -9,18 +9,7 @@ ghost use mathlib.Core.List.{[], _∷_, _++_};
 ghost use Prim.Native.Nat.{_+_, _<_};
 ghost use lib.ListN.{replicate};
 ghost use Rattle.refusals.specs.Finding.{found, refusedBy};
-ghost use Rattle.laid.specs.Laid.{goes};
 ghost use Rattle.bounded.specs.Held.{noGrid, gridsOf, outcomeOf, LaidOut, Held};
-
-// Whether nothing is refused.
-pub fn is_sound(verdict: Verdict) -> bool
-    ensures { λ r. ⌜ r ≡ goes verdict ⌝ }
-{
-    match verdict {
-        Verdict::Sound => true,
-        Verdict::Refused(_) => false,
-    }
-}
 
 // An array of blank grids.
 pub fn blanks() -> [Grid; 31]

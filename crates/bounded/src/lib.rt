@@ -7,7 +7,6 @@ mod held;
 
 pub use all::bound_all;
 pub use held::blanks;
-pub use held::is_sound;
 
 // Grids with their bounds, which are the first n of the array, or why they are refused. Every other place of the array is blank.
 pub struct Grids {

@@ -3,7 +3,7 @@ use crate::Detection;
 use crate::ladder::detectable;
 use crate::stages::find;
 use crate::telling::refused;
-use bounded::is_sound;
+use laid::is_sound;
 use picture::Verdict;
 use rollback::blacken;
 use table::Table;

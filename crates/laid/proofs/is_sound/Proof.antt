@@ -1,8 +1,8 @@
 -- `is_sound` goes by the verdict. Assumes nothing.
 use borrow.Author.Needs.{needs}
 use Rattle.laid.specs.Laid.{goes}
-use Rattle.bounded.proofs.held.is_sound.Statement.{statement}
-use Rattle.bounded.proofs.held.is_sound.Tie as tie
+use Rattle.laid.proofs.is_sound.Statement.{statement}
+use Rattle.laid.proofs.is_sound.Tie as tie
 
 enum-told : tie.Need-enum-told
 enum-told c = search needs
