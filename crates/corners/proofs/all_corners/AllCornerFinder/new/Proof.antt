@@ -1,5 +1,4 @@
 -- `new` starts with `initial` in all four directions, scored as the other points are. Assumes nothing.
-use borrow.Author.Needs.{needs}
 use mathlib.Core.Path.{_≡_, sym, subst}
 use Rattle.points.specs.declared.Point.{Point}
 use Rattle.corners.specs.Scores.{Direction, alongOf, acrossOf, behindOf, leftOf}
