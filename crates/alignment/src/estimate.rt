@@ -12,7 +12,7 @@ use sizes::unsigned_abs;
 use stated::{Stated, state};
 
 // An estimate: how many pixels the alignment pattern has, or a refusal.
-#[derive(Drop)]
+#[derive(Clone, Copy)]
 pub enum Estimate {
     Size(usize),
     Refused(Refusal),

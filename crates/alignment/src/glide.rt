@@ -14,7 +14,7 @@ use points::Point;
 use table::Table;
 
 // What a glance at a place tells: the pass moves on, it skips its move, or the place has to be visited.
-#[derive(Drop)]
+#[derive(Clone, Copy)]
 pub enum Glance {
     Moves,
     Stays,
@@ -22,7 +22,7 @@ pub enum Glance {
 }
 
 // Where a glide comes to: the pass, and the place that it starts from.
-#[derive(Drop)]
+#[derive(Clone, Copy)]
 pub struct Stand {
     pub pass: Pass,
     pub at: Point,

@@ -1,4 +1,6 @@
 // The alignment pattern: how large it is taken to be, the spiral that looks for it, and its claim (identify/grid.rs, `find_alignment_pattern` and `from_group`).
+#![tactic(auto)]
+
 mod estimate;
 mod glide;
 mod pattern;

@@ -15,7 +15,7 @@ use refusals::Refusal;
 use table::Table;
 
 // What a search answers: the place of the alignment pattern, that there is none near the seed, or why it refuses.
-#[derive(Drop)]
+#[derive(Clone, Copy)]
 pub enum Sighting {
     At(Point),
     Nowhere,
@@ -23,7 +23,7 @@ pub enum Sighting {
 }
 
 // A search's answer, beside the table that its lookups leave.
-#[derive(Drop)]
+#[derive(Clone, Copy)]
 pub struct Sought {
     pub place: Sighting,
     pub table: Table,

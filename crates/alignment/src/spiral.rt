@@ -6,7 +6,7 @@ use points::Point;
 use sizes::sum;
 
 // A pass of the spiral: its direction, how many passes its leg has, and how many of them are left, this one included.
-#[derive(Drop)]
+#[derive(Clone, Copy)]
 pub struct Pass {
     pub dir: usize,
     pub step: usize,

@@ -12,14 +12,14 @@ use regions::{ColoredRegion, get_region, is_unlisted};
 use table::Table;
 
 // Where a point lies: at a pixel of the picture, by its column and line, or beside the picture.
-#[derive(Drop)]
+#[derive(Clone, Copy)]
 pub enum Place {
     Pixel(usize, usize),
     Beside,
 }
 
 // What a visit comes to: the pass moves on, it skips its move, the place is the answer, or there is a refusal.
-#[derive(Drop)]
+#[derive(Clone, Copy)]
 pub enum Visit {
     Moves,
     Stays,
@@ -28,7 +28,7 @@ pub enum Visit {
 }
 
 // What a visit comes to, beside the table that it leaves.
-#[derive(Drop)]
+#[derive(Clone, Copy)]
 pub struct Visited {
     pub visit: Visit,
     pub table: Table,

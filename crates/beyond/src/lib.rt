@@ -1,4 +1,6 @@
 // The fitness of a perspective, as far as it can exceed the best so far: a trial is given up as soon as the cells that were not looked at can't lift it over that.
+#![tactic(auto)]
+
 mod outdone;
 mod parts;
 mod rest;

@@ -1,4 +1,6 @@
 // The bounds of all located grids, after the final pass (prepare.rs, `detect_grids`).
+#![tactic(auto)]
+
 use bounds::Grid;
 use picture::Verdict;
 
@@ -9,7 +11,7 @@ pub use all::bound_all;
 pub use held::blanks;
 
 // Grids with their bounds, which are the first n of the array, or why they are refused. Every other place of the array is blank.
-#[derive(Drop)]
+#[derive(Clone, Copy)]
 pub struct Grids {
     pub all: [Grid; 31],
     pub n: usize,

@@ -1,4 +1,6 @@
 // Grids as detect tells them: where a located grid lies, and its bounds (prepare.rs, `detect_grids`).
+#![tactic(auto)]
+
 ghost use Rattle.std.specs.Prelude.{◌≡◌};
 ghost use Rattle.geometry.specs.Map as map;
 ghost use Rattle.bounds.specs.Bounds.{meaning, with_bounds, bounded_of};
@@ -8,7 +10,7 @@ use grids::SkewedGridLocation;
 use points::Point;
 
 // A grid: how many cells it has along a side, its perspective, and its bounds, each by its place in the Rust's list.
-#[derive(Drop)]
+#[derive(Clone, Copy)]
 pub struct Grid {
     pub size: u8,
     pub c: Perspective,
@@ -19,7 +21,7 @@ pub struct Grid {
 }
 
 // A located grid with its bounds, or refusal 13, where one of them lies nowhere.
-#[derive(Drop)]
+#[derive(Clone, Copy)]
 pub enum Bounded {
     Grid(Grid),
     Unplaced,

@@ -1,4 +1,6 @@
 // Capstones: the locator patterns of a symbol (detect.rs).
+#![tactic(auto)]
+
 ghost use Rattle.std.specs.Prelude.{◌≡◌};
 ghost use Rattle.capstones.specs.Blank.{no_stone};
 
@@ -6,7 +8,7 @@ use geometry::Perspective;
 use points::Point;
 
 // One of the three corner patterns of a symbol: its own four corners, its centre, and its local perspective, by which it is seven wide and seven high.
-#[derive(Drop)]
+#[derive(Clone, Copy)]
 pub struct CapStone {
     pub corner0: Point,
     pub corner1: Point,

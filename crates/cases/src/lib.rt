@@ -1,1 +1,2 @@
 // Document 01's examples marked P: one table (specs/), under one claim (proofs/).
+#![tactic(auto)]

@@ -16,14 +16,14 @@ use geometry::Perspective;
 use rounding::Whole;
 
 // Where a point lies in the picture, before its coordinates are rounded.
-#[derive(Drop)]
+#[derive(Clone, Copy)]
 struct Landing {
     right: f64,
     below: f64,
 }
 
 // Where the three points of a cell lie that are at one height.
-#[derive(Drop)]
+#[derive(Clone, Copy)]
 struct Landings {
     first: Landing,
     second: Landing,

@@ -1,4 +1,6 @@
 // Reading one cell of a grid (identify/grid.rs, `BitGrid::bit`).
+#![tactic(auto)]
+
 ghost use Rattle.std.specs.Prelude.{◌≡◌, length};
 ghost use Rattle.refusals.specs.First.{first};
 ghost use Rattle.picture.specs.Sides.{Sized};
@@ -11,7 +13,7 @@ use points::Point;
 use refusals::Refusal;
 
 // A cell: dark, where its middle is not white, or light; or a refusal.
-#[derive(Drop)]
+#[derive(Clone, Copy)]
 pub enum Cell {
     Dark,
     Light,

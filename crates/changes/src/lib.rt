@@ -1,4 +1,6 @@
 // Copies of a perspective with one coefficient changed, for refinement.
+#![tactic(auto)]
+
 ghost use Rattle.std.specs.Prelude.{◌≡◌};
 ghost use Rattle.changes.specs.Change.{coefficient, replaced, raised, lowered};
 

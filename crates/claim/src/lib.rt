@@ -1,4 +1,6 @@
 // The claim of a piece (`repaint_and_apply` of prepare.rs), for any input.
+#![tactic(auto)]
+
 ghost use Rattle.std.specs.Prelude.{◌≡◌, length};
 ghost use Rattle.refusals.specs.First.{first, sound};
 ghost use Rattle.picture.specs.Verdict.{judged};
@@ -10,7 +12,7 @@ use picture::{Verdict, seeded};
 use refusals::Refusal;
 
 // What a claim answers: rows met, pixels painted and entries pushed, or why it is refused.
-#[derive(Drop)]
+#[derive(Clone, Copy)]
 pub enum Claimed {
     Done(Counts),
     Refused(Refusal),

@@ -15,7 +15,7 @@ use pieces::Row;
 use points::Point;
 
 // Finds the four corners of a sheared rectangle: the points farthest in the four directions of a line in it.
-#[derive(Drop)]
+#[derive(Clone, Copy)]
 pub struct AllCornerFinder {
     pub baseline: Point,
     pub ahead: Best,

@@ -14,7 +14,7 @@ use pieces::Row;
 use points::Point;
 
 // Finds a corner of a sheared rectangle: the point farthest from `initial`.
-#[derive(Drop)]
+#[derive(Clone, Copy)]
 pub struct FirstCornerFinder {
     pub initial: Point,
     pub best: Best,

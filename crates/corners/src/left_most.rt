@@ -15,7 +15,7 @@ use pieces::Row;
 use points::Point;
 
 // Finds the point that lies farthest to the left of a line.
-#[derive(Drop)]
+#[derive(Clone, Copy)]
 pub struct LeftMostFinder {
     pub line: Point,
     pub best: Best,

@@ -1,4 +1,6 @@
 // The fills that look for corners: each paints a piece, and shows the rows that it meets to its finder.
+#![tactic(auto)]
+
 mod all_corners;
 mod first_corner;
 mod left_most;

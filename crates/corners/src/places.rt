@@ -17,7 +17,7 @@ pub fn point_at(x: usize, y: usize) -> Point
 }
 
 // The best of the points met, with its score.
-#[derive(Drop)]
+#[derive(Clone, Copy)]
 pub struct Best {
     pub place: Point,
     pub score: i32,

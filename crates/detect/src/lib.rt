@@ -1,4 +1,6 @@
 // Detect: from a bitmap to the grids of its symbols (prepare.rs, `detect_grids`).
+#![tactic(auto)]
+
 use bounds::Grid;
 use picture::Verdict;
 use table::Table;
@@ -11,7 +13,7 @@ mod whole;
 pub use whole::detect;
 
 // What detect tells: how many stones a picture has, and its grids, which are the first n of the array; or why it refuses. Every other place of the array is blank, and after a refusal no stones are told.
-#[derive(Drop)]
+#[derive(Clone, Copy)]
 pub struct Findings {
     pub stones: usize,
     pub grids: [Grid; 31],
@@ -20,7 +22,7 @@ pub struct Findings {
 }
 
 // What detect tells, beside the table that it leaves.
-#[derive(Drop)]
+#[derive(Clone, Copy)]
 pub struct Detection {
     pub findings: Findings,
     pub table: Table,

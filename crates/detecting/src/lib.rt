@@ -1,4 +1,6 @@
 // Detect, with the region table lent (prepare.rs, `detect_grids`).
+#![tactic(auto)]
+
 ghost use Rattle.std.specs.Prelude.{length};
 ghost use Rattle.detect.specs.Telling.{outcome, LaidOut};
 ghost use Rattle.detect.specs.Detect.{DetectPost};

@@ -1,6 +1,8 @@
 // The library's face for C and for Rust. A call returns 0 when it has written its values into the slice that it was lent, 255 when
 // there is nothing to be found, and else the number of a refusal (document 01), with the slice as it was. No call asks anything of
 // its caller but that each pointer with its length is a slice. What each call tells is defined in the crates `told_..`.
+#![tactic(auto)]
+
 ghost use Rattle.std.specs.Prelude.{◌≡◌, length};
 ghost use Rattle.refusals.specs.First.{first, sound};
 ghost use Rattle.picture.specs.Bitmap.{accept_tests};

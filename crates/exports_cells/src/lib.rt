@@ -1,4 +1,6 @@
 // Reading a cell of a grid, for callers in C and in Rust. It asks nothing of its caller but that each pointer with its length is a slice.
+#![tactic(auto)]
+
 ghost use Rattle.std.specs.Prelude.{◌≡◌, ◌≤◌, length};
 ghost use Rattle.cells.specs.Cell.{meaning};
 ghost use Rattle.exports_cells.specs.Tells.{perspective_at, cell_number, cell_told};

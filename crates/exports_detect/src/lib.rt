@@ -1,4 +1,6 @@
 // Detect, for callers in C and in Rust. It asks nothing of its caller but that each pointer with its length is a slice.
+#![tactic(auto)]
+
 mod places;
 
 ghost use Rattle.std.specs.Prelude.{◌≡◌, ◌≤◌, length};

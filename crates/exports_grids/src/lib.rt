@@ -1,4 +1,6 @@
 // Fitting a group of stones, for callers in C and in Rust. It asks nothing of its caller but that each pointer with its length is a slice.
+#![tactic(auto)]
+
 mod lent;
 mod tell;
 

@@ -1,5 +1,7 @@
 // The search for marks, for callers in C and in Rust: the first half of detect. It asks nothing of its caller but that each pointer with
 // its length is a slice.
+#![tactic(auto)]
+
 mod stones;
 
 ghost use Rattle.std.specs.Prelude.{length};

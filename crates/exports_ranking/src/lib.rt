@@ -1,5 +1,7 @@
 // The ranking of a stone's neighbours, for callers in C and in Rust. It asks nothing of its caller but that each pointer with its length is
 // a slice.
+#![tactic(auto)]
+
 mod lent;
 mod pairs;
 

@@ -1,4 +1,6 @@
 // Lookup, for callers in C and in Rust. It asks nothing of its caller but that each pointer with its length is a slice.
+#![tactic(auto)]
+
 ghost use Rattle.std.specs.Prelude.{◌≡◌, ◌+◌, ◌≤◌, length};
 ghost use Rattle.picture.specs.Colour.{byte_of, Shown};
 ghost use Rattle.regions.specs.Found.{meaning};

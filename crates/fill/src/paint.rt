@@ -7,7 +7,7 @@ ghost use Rattle.fill.specs.Fold.{Counted};
 use crate::step::{Stepped, fill_step, seed};
 
 // Rows met, pixels painted, stack entries pushed.
-#[derive(Drop)]
+#[derive(Clone, Copy)]
 pub struct Counts {
     pub rows: usize,
     pub pixels: usize,

@@ -52,7 +52,7 @@ pub fn row_at(pic: &[u8], w: usize, y: usize, base: usize, x: usize, from: u8) -
 
 // Paints n bytes from `at` on. A single byte is written without the loop: rows of one pixel are frequent.
 pub fn paint_run(pic: &mut [u8], at: usize, n: usize, to: u8)
-    requires* { do ⌜ at + n ≤ (← ⟦pic.len()⟧) ⌝ }
+    requires { at + n ≤ length pic.old }
     ensures { pic.new ≡ paint_run pic.old at n to }
 {
     if n == 1 {

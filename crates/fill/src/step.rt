@@ -9,7 +9,7 @@ use crate::seeds::{seed_above, seed_below};
 use pieces::Row;
 
 // What a step did, with the stack's new size: it met a row, or passed over an entry whose pixel was painted by then.
-#[derive(Drop)]
+#[derive(Clone, Copy)]
 pub enum Stepped {
     Met(Row, usize),
     Passed(usize),

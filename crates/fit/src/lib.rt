@@ -1,4 +1,6 @@
 // Fitting a group of stones: from three stones to a located grid (identify/grid.rs, `SkewedGridLocation::from_group`).
+#![tactic(auto)]
+
 use grids::Fit;
 use setups::Answer;
 use table::Table;
@@ -11,14 +13,14 @@ pub use group::{from_group, refit};
 pub use whole::fit_group;
 
 // What a group comes to, beside the table that fitting it leaves.
-#[derive(Drop)]
+#[derive(Clone, Copy)]
 pub struct Fitted {
     pub fit: Fit,
     pub table: Table,
 }
 
 // The same, with what is remembered of the setup.
-#[derive(Drop)]
+#[derive(Clone, Copy)]
 pub struct Refitted {
     pub answer: Answer,
     pub table: Table,

@@ -30,7 +30,7 @@ fn put_back(pic: &mut [u8], scratch: &[u8])
     ensures { pic.new ≡ take (length pic.old) scratch.now }
 {
     let n = pic.len();
-    bytes::copy(&scratch[0..n], pic);
+    pic.copy_from_slice(&scratch[0..n]);
 }
 
 // Fits a group on a picture that is kept in the scratch: where its steps refuse, the picture is put back.
@@ -46,7 +46,8 @@ fn fit_kept(
     requires { Workable pic.old width height (length stack.old) table × (width * height ≤ length scratch.old) × Centred group × Cornered group }
     ensures { FitsWhole pic.old width height table group (meaning result.fit) pic.new result.table }
 {
-    bytes::copy(pic, scratch);
+    let n = pic.len();
+    scratch[0..n].copy_from_slice(pic);
     let fitted = from_group(pic, width, height, stack, table, group);
     let fit = fitted.fit;
     if is_refused(fit) {

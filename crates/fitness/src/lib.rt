@@ -1,4 +1,6 @@
 // How well a perspective fits a grid (identify/grid.rs, `fitness_all`): the cells that each symbol of the size shows dark or light are looked at where the perspective has them.
+#![tactic(auto)]
+
 mod alignment;
 mod rings;
 mod timing;

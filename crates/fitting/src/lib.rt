@@ -1,4 +1,6 @@
 // Fitting a group of stones, with the region table lent (identify/grid.rs).
+#![tactic(auto)]
+
 ghost use Rattle.std.specs.Prelude.{length};
 ghost use Rattle.grids.specs.Grid.{meaning};
 ghost use Rattle.fit.specs.Fit.{FitPost};

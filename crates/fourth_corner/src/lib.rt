@@ -1,4 +1,6 @@
 // The fourth corner of an outline: where the lines of the others meet, or, above size 21, at the alignment pattern near that (identify/grid.rs, `from_group`).
+#![tactic(auto)]
+
 ghost use Rattle.std.specs.Prelude.{◌≤◌, length};
 ghost use Rattle.refusals.specs.Limits.{farthest};
 ghost use Rattle.points.specs.Range.{Near};

@@ -6,7 +6,7 @@ use crate::{Perspective, Sight};
 use points::Point;
 
 // The corners' coordinates as floats.
-#[derive(Drop)]
+#[derive(Clone, Copy)]
 struct Corners {
     x0: f64,
     y0: f64,

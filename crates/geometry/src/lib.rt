@@ -1,4 +1,6 @@
 // Perspectives: from a grid to the picture that shows it, and back (geometry.rs).
+#![tactic(auto)]
+
 use points::Point;
 
 mod create;
@@ -7,7 +9,7 @@ mod unmap;
 
 // A perspective, by its coefficients. The grid's point (u, v) lies in the picture at
 // x = (c0 u + c1 v + c2) / (c6 u + c7 v + 1), y = (c3 u + c4 v + c5) / (c6 u + c7 v + 1).
-#[derive(Drop)]
+#[derive(Clone, Copy)]
 pub struct Perspective {
     pub c0: f64,
     pub c1: f64,
@@ -20,21 +22,21 @@ pub struct Perspective {
 }
 
 // The perspective of four corners: made, or flat, where they have none.
-#[derive(Drop)]
+#[derive(Clone, Copy)]
 pub enum Sight {
     Made(Perspective),
     Flat,
 }
 
 // Where a point of the grid lies in the picture: at a pixel's place, or at none that an `i32` holds (refusal 13).
-#[derive(Drop)]
+#[derive(Clone, Copy)]
 pub enum Spot {
     Placed(Point),
     Unplaced,
 }
 
 // A point of the grid.
-#[derive(Drop)]
+#[derive(Clone, Copy)]
 pub struct GridPoint {
     pub u: f64,
     pub v: f64,

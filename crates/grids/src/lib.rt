@@ -1,4 +1,6 @@
 // Located grids: the perspective of a symbol, set up from its corners and refined (identify/grid.rs, `SkewedGridLocation`, `setup_perspective`).
+#![tactic(auto)]
+
 ghost use Rattle.std.specs.Prelude.{◌≡◌, ◌≤◌, length};
 ghost use Rattle.refusals.specs.Finding.{found};
 ghost use Rattle.picture.specs.Sides.{Sized};
@@ -12,14 +14,14 @@ use refine::{Refined, Refinement};
 use refusals::Refusal;
 
 // Where a grid lies: how many cells it has along a side, and its perspective.
-#[derive(Drop)]
+#[derive(Clone, Copy)]
 pub struct SkewedGridLocation {
     pub size: u8,
     pub c: Perspective,
 }
 
 // What a group of stones comes to: a grid, no grid, or a refusal.
-#[derive(Drop)]
+#[derive(Clone, Copy)]
 pub enum Fit {
     Grid(SkewedGridLocation),
     NoGrid,

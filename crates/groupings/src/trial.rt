@@ -27,7 +27,7 @@ pub fn trial(
     let known = no_setup();
     let turned = copied(table);
     let n = pic.len();
-    bytes::copy(pic, scratch);
+    scratch[0..n].copy_from_slice(pic);
     let fitted = refit(
         &mut scratch[0..n],
         width,

@@ -1,4 +1,6 @@
 // Groups of three stones that may be a symbol's: put in order, and each stone turned as the symbol lies (identify/grid.rs, `from_group` and `rotate_capstone`).
+#![tactic(auto)]
+
 use capstones::CapStone;
 use points::Point;
 
@@ -13,7 +15,7 @@ pub use sides::side_of;
 pub use turning::rotate_capstone;
 
 // Three stones: the first and the third lie beside the second, each along one side of the symbol.
-#[derive(Drop)]
+#[derive(Clone, Copy)]
 pub struct CapStoneGroup {
     pub first: CapStone,
     pub second: CapStone,
@@ -21,7 +23,7 @@ pub struct CapStoneGroup {
 }
 
 // A group in order, and the line that its stones are turned by: through h0, in the direction hd.
-#[derive(Drop)]
+#[derive(Clone, Copy)]
 pub struct Oriented {
     pub group: CapStoneGroup,
     pub h0: Point,
@@ -29,14 +31,14 @@ pub struct Oriented {
 }
 
 // What a stone's rotation answers: the stone, or that its turned corners are flat (refusal 15).
-#[derive(Drop)]
+#[derive(Clone, Copy)]
 pub enum Rotated {
     Stone(CapStone),
     Turned,
 }
 
 // What a group's rotation answers: the group, or that the turned corners of one of its stones are flat (refusal 15).
-#[derive(Drop)]
+#[derive(Clone, Copy)]
 pub enum Rotation {
     Group(CapStoneGroup),
     Turned,

@@ -1,4 +1,6 @@
 // How lists stand in arrays: what is found first, blanks past it; and whether a verdict refuses nothing.
+#![tactic(auto)]
+
 ghost use Rattle.std.specs.Prelude.{◌≡◌};
 ghost use Rattle.laid.specs.Laid.{goes};
 

@@ -1,3 +1,5 @@
+#![tactic(auto)]
+
 ghost use Rattle.std.specs.Prelude.{◌≡◌, ◌^◌, ◌<◌, nat_abs};
 ghost use Rattle.std.specs.Int.Signed.{quot_z};
 ghost use Rattle.points.specs.Range.{Within};
@@ -7,14 +9,14 @@ use points::Point;
 use sizes::{cross, diff, dot, opposite};
 
 // Where two lines meet. Parallel lines, and a line that is a point, meet nowhere.
-#[derive(Drop)]
+#[derive(Clone, Copy)]
 pub enum Meet {
     At(Point),
     Nowhere,
 }
 
 // The line a x + b y = e: (a, b) stands at right angles to it.
-#[derive(Drop)]
+#[derive(Clone, Copy)]
 struct Line {
     a: i32,
     b: i32,

@@ -1,4 +1,6 @@
 // All that `locate` prints of what was found, made in a buffer that the caller lends (document 01, "Program `locate`").
+#![tactic(auto)]
+
 ghost use Rattle.std.specs.Prelude.{◌≡◌, ◌+◌, ◌*◌, ◌≤◌, length, take};
 ghost use Rattle.refusals.specs.Finding.{found};
 ghost use Rattle.report.specs.Puts.{Puts};

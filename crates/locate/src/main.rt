@@ -1,4 +1,6 @@
 // Program `locate` (document 01): reads a text bitmap on standard input, and prints the symbols that it finds there.
+#![tactic(auto)]
+
 ghost use Rattle.std.specs.Prelude.{◌≡◌, ◌≤◌, length, take};
 ghost use Rattle.io.specs.Counts.{IsPrefixLen};
 ghost use Rattle.netpbm.specs.Form.{most_pixels};

@@ -8,7 +8,7 @@ use libc::STDIN_FILENO;
 use netpbm::{Input, Reader, feed, finish, start};
 
 // The state after some bytes more, and whether they are the last.
-#[derive(Drop)]
+#[derive(Clone, Copy)]
 struct Turn {
     reader: Reader,
     last: bool,

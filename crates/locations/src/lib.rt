@@ -1,4 +1,6 @@
 // The final pass of detect: each group is fitted on the picture itself, in the order found (prepare.rs, `detect_grids`).
+#![tactic(auto)]
+
 use grids::SkewedGridLocation;
 use picture::Verdict;
 use table::Table;
@@ -9,7 +11,7 @@ mod pass;
 pub use pass::fit_all;
 
 // What the final pass has found: the located grids, which are the first n of the array, or why it refuses. Every other place of the array is blank.
-#[derive(Drop)]
+#[derive(Clone, Copy)]
 pub struct Locations {
     pub all: [SkewedGridLocation; 31],
     pub n: usize,

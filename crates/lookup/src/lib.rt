@@ -1,4 +1,6 @@
 // Lookup with the region table lent (prepare.rs, `get_region`).
+#![tactic(auto)]
+
 ghost use Rattle.std.specs.Prelude.{◌≡◌, ◌<◌, length};
 ghost use Rattle.table.specs.Table.{entry_of};
 ghost use Rattle.regions.specs.Found.{meaning};
@@ -9,7 +11,7 @@ use regions::ColoredRegion;
 use table::{Entry, Table};
 
 // An entry, with its number.
-#[derive(Drop)]
+#[derive(Clone, Copy)]
 struct Numbered {
     number: usize,
     entry: Entry,

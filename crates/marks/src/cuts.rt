@@ -7,7 +7,7 @@ ghost use Rattle.marks.specs.Cuts.{Reaches};
 use scanner::{Advanced, LinePosition, LineScanner, next_line};
 
 // What a scan of the picture comes to: a cut, with its line and the scan that goes on from it, or the end.
-#[derive(Drop)]
+#[derive(Clone, Copy)]
 pub enum Cutting {
     At(usize, LinePosition, LineScanner),
     Done,

@@ -1,4 +1,6 @@
 // Marks: the finder patterns of a picture, found line by line (detect.rs).
+#![tactic(auto)]
+
 mod bitmap;
 mod cuts;
 mod ring;

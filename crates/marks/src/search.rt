@@ -19,7 +19,7 @@ use scanner::{LinePosition, LineScanner};
 use table::Table;
 
 // What a search has found: the stones, which are the first n of the array, or why it refuses. Every other place of the array is blank.
-#[derive(Drop)]
+#[derive(Clone, Copy)]
 pub struct Marks {
     pub stones: [CapStone; 64],
     pub n: usize,

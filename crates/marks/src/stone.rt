@@ -12,7 +12,7 @@ use refusals::Refusal;
 use stated::is_near;
 
 // What a cut comes to: a mark's stone, nothing, or a refusal.
-#[derive(Drop)]
+#[derive(Clone, Copy)]
 pub enum Mark {
     Stone(CapStone),
     Dropped,

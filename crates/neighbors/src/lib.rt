@@ -1,4 +1,6 @@
 // The ranking of a stone's neighbours, over a lent list of stones (identify/match_capstones.rs).
+#![tactic(auto)]
+
 ghost use Rattle.std.specs.Prelude.{◌≡◌, length, replicate};
 ghost use Rattle.capstones.specs.Blank.{no_stone};
 ghost use Rattle.match_capstones.specs.Answer.{ranking, Tells};

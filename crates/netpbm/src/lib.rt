@@ -1,4 +1,6 @@
 // Reads a text bitmap, chunk by chunk: `P1`, width, height, then a digit for each pixel (document 01, "Program `locate`").
+#![tactic(auto)]
+
 ghost use Rattle.std.specs.Prelude.{◌≡◌};
 ghost use Rattle.netpbm.specs.Machine.{Bounded};
 ghost use Rattle.netpbm.specs.Reads.{InReading, GoesOn};
@@ -9,14 +11,14 @@ mod digits;
 mod step;
 
 // A header number as far as it is read: how many digits it has, and what they say.
-#[derive(Drop)]
+#[derive(Clone, Copy)]
 pub struct Number {
     digits: usize,
     value: usize,
 }
 
 // The sides of a bitmap, and how many of its pixels are read.
-#[derive(Drop)]
+#[derive(Clone, Copy)]
 pub struct Body {
     width: usize,
     height: usize,
@@ -24,7 +26,7 @@ pub struct Body {
 }
 
 // The state of a reading: where it stands in the form, with what it has read of use. `Letter` is after `P`, `Magic` after `P1`.
-#[derive(Drop)]
+#[derive(Clone, Copy)]
 pub enum Reader {
     Nothing,
     Letter,
@@ -38,7 +40,7 @@ pub enum Reader {
 }
 
 // What a file is: a bitmap with these sides, or none.
-#[derive(Drop)]
+#[derive(Clone, Copy)]
 pub enum Input {
     Bitmap(usize, usize),
     Refused,

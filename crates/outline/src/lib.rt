@@ -1,4 +1,6 @@
 // A group's outline: its stones in order and turned, the size that its timing pattern tells, and where its fourth corner is looked for (identify/grid.rs, `from_group`, up to the intersection).
+#![tactic(auto)]
+
 ghost use Rattle.std.specs.Prelude.{◌≡◌, length};
 ghost use Rattle.picture.specs.Sides.{Sized};
 ghost use Rattle.groups.specs.Group.{Centred, Cornered};
@@ -12,7 +14,7 @@ use stated::Stated;
 use timing::{Measured, measure_timing_pattern};
 
 // The stones in order and turned, the direction from the first to the third, the modules along a side, and the fourth corner by the lines of the others.
-#[derive(Drop)]
+#[derive(Clone, Copy)]
 pub struct Outline {
     pub group: CapStoneGroup,
     pub hd: Point,
@@ -21,7 +23,7 @@ pub struct Outline {
 }
 
 // What a group's outline comes to: it is drawn, its lines stay apart, which is no refusal, or there is a refusal.
-#[derive(Drop)]
+#[derive(Clone, Copy)]
 pub enum Outlined {
     Drawn(Outline),
     Apart,

@@ -1,3 +1,5 @@
+#![tactic(auto)]
+
 use refusals::Refusal;
 
 mod bitmap;
@@ -9,7 +11,7 @@ pub use color::{byte_of, color_of};
 pub use ladder::{room, seeded, sides};
 
 // What a byte of a picture stands for. A numbered piece is Discarded, with its number.
-#[derive(Drop)]
+#[derive(Clone, Copy)]
 pub enum PixelColor {
     White,
     Black,
@@ -20,7 +22,7 @@ pub enum PixelColor {
 }
 
 // What the tests before an operation say: nothing to refuse, or why.
-#[derive(Drop)]
+#[derive(Clone, Copy)]
 pub enum Verdict {
     Sound,
     Refused(Refusal),

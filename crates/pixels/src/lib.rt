@@ -1,4 +1,6 @@
 // What a picture shows at a point, which may lie beside it (prepare.rs, `get_pixel_at_point`).
+#![tactic(auto)]
+
 ghost use Rattle.std.specs.Prelude.{◌≡◌, ◌<◌, ◌≤◌, length};
 ghost use Rattle.refusals.specs.Limits.{longest_side};
 ghost use Rattle.picture.specs.Sides.{Sized};

@@ -1,4 +1,6 @@
 // Whether a perspective certainly places every point of a grid, told by its coefficients alone.
+#![tactic(auto)]
+
 ghost use Rattle.std.specs.Prelude.{◌≡◌};
 ghost use Rattle.placed.specs.Tame.{within, slant, near, tame};
 

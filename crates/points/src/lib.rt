@@ -1,5 +1,7 @@
+#![tactic(auto)]
+
 // A place in a picture, or beside it: x counts to the right, y downwards.
-#[derive(Drop)]
+#[derive(Clone, Copy)]
 pub struct Point {
     pub x: i32,
     pub y: i32,

@@ -2,7 +2,7 @@ ghost use Rattle.std.specs.Prelude.{◌≡◌, ◌+◌, ◌-◌, ◌*◌, ◌/�
 ghost use Rattle.prepare.specs.Run.{Ready, Kept, ends_of};
 
 // The averages at the end of a row: the one that ran from the left, and the one that ran from the right.
-#[derive(Drop)]
+#[derive(Clone, Copy)]
 pub struct Ends {
     pub left: u64,
     pub right: u64,

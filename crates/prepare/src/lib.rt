@@ -1,3 +1,5 @@
+#![tactic(auto)]
+
 use picture::Verdict;
 
 mod averages;

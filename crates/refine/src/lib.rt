@@ -1,4 +1,6 @@
 // Refinement: a perspective's coefficients are moved a little, one at a time, as long as that fits a grid better (identify/grid.rs, `jiggle_perspective`).
+#![tactic(auto)]
+
 mod adjust;
 mod trial;
 
@@ -10,14 +12,14 @@ ghost use Rattle.refine.specs.Refine.{meaning, refined_of};
 use geometry::Perspective;
 
 // A perspective, and its fitness.
-#[derive(Drop)]
+#[derive(Clone, Copy)]
 pub struct Refined {
     pub c: Perspective,
     pub score: i32,
 }
 
 // What refinement arrives at, or a point that lies nowhere (refusal 13).
-#[derive(Drop)]
+#[derive(Clone, Copy)]
 pub enum Refinement {
     Done(Refined),
     Unplaced,

@@ -1,8 +1,10 @@
+#![tactic(auto)]
+
 ghost use Rattle.std.specs.Prelude.{◌≡◌};
 ghost use Rattle.refusals.specs.Numbers.{number_of};
 
 // Why an operation refuses, in the order of document 01's numbers.
-#[derive(Drop)]
+#[derive(Clone, Copy)]
 pub enum Refusal {
     Size,
     Length,

@@ -1,3 +1,5 @@
+#![tactic(auto)]
+
 ghost use Rattle.std.specs.Prelude.{length};
 ghost use Rattle.regions.specs.Found.{meaning};
 ghost use Rattle.regions.specs.Tests.{Lookable};
@@ -13,14 +15,14 @@ mod number;
 pub use ladder::is_unlisted;
 
 // A region that no claim has taken: its number, with its entry.
-#[derive(Drop)]
+#[derive(Clone, Copy)]
 pub struct Region {
     pub number: u8,
     pub entry: Entry,
 }
 
 // What a lookup finds: a claimed piece's colour, an unclaimed piece's region, or why it refuses.
-#[derive(Drop)]
+#[derive(Clone, Copy)]
 pub enum ColoredRegion {
     Claimed(PixelColor),
     Unclaimed(Region),
@@ -28,7 +30,7 @@ pub enum ColoredRegion {
 }
 
 // A lookup's answer, beside the table that it leaves.
-#[derive(Drop)]
+#[derive(Clone, Copy)]
 pub struct Looked {
     pub found: ColoredRegion,
     pub table: Table,

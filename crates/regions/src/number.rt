@@ -9,7 +9,7 @@ use fill::paint::{fill_black, paint_and_count};
 use table::{Entry, place_of};
 
 // The number that a piece has or gets, its place in the age order, and how many entries there are then.
-#[derive(Drop)]
+#[derive(Clone, Copy)]
 pub struct Choice {
     pub number: u8,
     pub place: usize,

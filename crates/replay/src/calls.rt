@@ -8,7 +8,7 @@ use regions::look_up;
 use table::{Table, empty};
 
 // A table, and where the next answer is to be written.
-#[derive(Drop)]
+#[derive(Clone, Copy)]
 struct Replayed {
     table: Table,
     at: usize,

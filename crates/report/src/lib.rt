@@ -1,4 +1,6 @@
 // The lines that `locate` prints, made in a buffer that the caller lends (document 01, "Program `locate`"). Each function answers the place after what it put, and asks room for the longest line that it can put.
+#![tactic(auto)]
+
 ghost use Rattle.std.specs.Prelude.{◌+◌, ◌≤◌, length};
 ghost use Rattle.report.specs.Lines.{refused_line, count_lines, grid_line};
 ghost use Rattle.report.specs.Puts.{Puts};
@@ -11,7 +13,7 @@ mod numbers;
 mod put;
 
 // What is told of a grid: its size, its perspective, and its bounds.
-#[derive(Drop)]
+#[derive(Clone, Copy)]
 pub struct Line {
     pub size: u8,
     pub c: Perspective,

@@ -1,4 +1,6 @@
 // The ratio test: whether a stone has the size that its ring asks for (detect.rs, `is_capstone`).
+#![tactic(auto)]
+
 ghost use Rattle.std.specs.Prelude.{◌≡◌, ◌≤◌, ◌<◌};
 ghost use Rattle.rings.specs.Ratio.{most_pixels, ring_like};
 

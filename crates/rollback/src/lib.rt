@@ -1,4 +1,6 @@
 // The paint taken off a bitmap again, for an operation that is refused late.
+#![tactic(auto)]
+
 ghost use Rattle.std.specs.Prelude.{◌≡◌, map};
 ghost use Rattle.rollback.specs.Unpainted.{unpainted};
 

@@ -1,11 +1,13 @@
 // `f64::round` and the cast to `i32` after it, written out: the whole number nearest to a float.
+#![tactic(auto)]
+
 ghost use Rattle.std.specs.Prelude.{◌≡◌, ◌≤◌, ◌<◌, ◌^◌, T, true, false, pos, negsuc, neg_ℤ};
 ghost use Rattle.std.specs.Float.Ieee.{lt};
 ghost use Rattle.std.specs.Float.{fin};
 ghost use Rattle.rounding.specs.Nearest.{nearest_of, size_of};
 
 // A float, rounded: to a whole number, or off the range of `i32` (NaN included).
-#[derive(Drop)]
+#[derive(Clone, Copy)]
 pub enum Whole {
     At(i32),
     Off,

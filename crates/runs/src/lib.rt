@@ -1,4 +1,6 @@
 // The run test: whether five runs of a line, dark and light by turns, look like a cut through a finder mark (detect.rs, `test_for_capstone`).
+#![tactic(auto)]
+
 ghost use Rattle.std.specs.Prelude.{◌≡◌, ◌≤◌, ◌*◌};
 ghost use Rattle.runs.specs.Mark.{Short, average, near, mark_like};
 

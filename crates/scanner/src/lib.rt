@@ -1,4 +1,6 @@
 // The line scanner: the cuts of a line that may go through a mark (detect.rs, `LineScanner`). It sees white and not white alone.
+#![tactic(auto)]
+
 ghost use Rattle.std.specs.Prelude.{◌≡◌, true, false, ◌&&◌, leb, ◌+◌, ◌-◌, ◌<◌, ◌≤◌, length};
 ghost use Rattle.refusals.specs.Limits.{longest_side};
 ghost use Rattle.scanner.specs.Edges.{dark, run_end};
@@ -12,7 +14,7 @@ mod lines;
 pub use lines::next_line;
 
 // A cut through what may be a mark: the first columns of its left edge, of its stone and of its right edge.
-#[derive(Drop)]
+#[derive(Clone, Copy)]
 pub struct LinePosition {
     pub left: usize,
     pub stone: usize,
@@ -20,7 +22,7 @@ pub struct LinePosition {
 }
 
 // Where a scan stands: the last five edges that it met, the latest last, and how many there were.
-#[derive(Drop)]
+#[derive(Clone, Copy)]
 pub struct LineScanner {
     pub e0: usize,
     pub e1: usize,
@@ -31,7 +33,7 @@ pub struct LineScanner {
 }
 
 // What a scan comes to: a cut, with the scan from there on, or the end of the line.
-#[derive(Drop)]
+#[derive(Clone, Copy)]
 pub enum Advanced {
     Cut(LinePosition, LineScanner),
     Done,

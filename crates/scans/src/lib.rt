@@ -1,3 +1,5 @@
+#![tactic(auto)]
+
 ghost use Rattle.std.specs.Prelude.{◌≡◌, ◌+◌, ◌≤◌, nat_abs};
 ghost use Rattle.refusals.specs.Limits.{farthest};
 ghost use Rattle.points.specs.Range.{Near};
@@ -7,7 +9,7 @@ use points::Point;
 use sizes::{diff, sum, unsigned_abs};
 
 // A walk from one point to another, a point at a time: the larger distance leads, and each step goes one on in its direction.
-#[derive(Drop)]
+#[derive(Clone, Copy)]
 pub struct BresenhamScan {
     // the point that comes next
     pub x: i32,
@@ -27,7 +29,7 @@ pub struct BresenhamScan {
 }
 
 // What a step answers: the point that it sees and the scan that is left, or that there is none.
-#[derive(Drop)]
+#[derive(Clone, Copy)]
 pub enum Stepped {
     Seen(Point, BresenhamScan),
     Done,

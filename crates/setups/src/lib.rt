@@ -1,4 +1,6 @@
 // Setups that are remembered: detect fits each group twice, and a setup of the same corners and the same size comes to the same grid. What is remembered is no finding: no answer depends on it.
+#![tactic(auto)]
+
 ghost use Rattle.std.specs.Prelude.{◌≡◌, true, List, ℕ, length, replicate};
 ghost use Rattle.picture.specs.Sides.{Sized};
 ghost use Rattle.grids.specs.Grid.{meaning, Modules, set_up};
@@ -9,7 +11,7 @@ use grids::{Fit, SkewedGridLocation, setup_perspective};
 use points::Point;
 
 // What is remembered of a setup: its corners, its size, and the grid that it gave. Of size 0, which no symbol has, it is blank.
-#[derive(Drop)]
+#[derive(Clone, Copy)]
 pub struct Setup {
     pub p0: Point,
     pub p1: Point,
@@ -20,7 +22,7 @@ pub struct Setup {
 }
 
 // What corners come to, and what is remembered of it.
-#[derive(Drop)]
+#[derive(Clone, Copy)]
 pub struct Answer {
     pub fit: Fit,
     pub setup: Setup,

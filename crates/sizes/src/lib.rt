@@ -1,4 +1,6 @@
 // Signed arithmetic that stays in range: each function asks for a bound on the sizes of its numbers, and answers exactly.
+#![tactic(auto)]
+
 ghost use Rattle.std.specs.Prelude.{◌≡◌, ◌+◌, ◌*◌, ◌^◌, ◌<◌, neg_ℤ, nat_abs, ◌+ℤ◌, ◌-ℤ◌, ◌*ℤ◌};
 
 // The sum of two numbers.

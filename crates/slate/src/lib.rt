@@ -1,6 +1,7 @@
 // The operations of document 01, and nothing else. None asks anything: what it can't do it refuses, by the first number that applies, and then it leaves picture and table as at entry.
 // What each promises leaves one answer, one picture and one table: `proofs/Determined.antt`.
 // An operation that is lent a record (the table, or a list of stones) is passed on as it stands, under the contract that it has in its own crate; the comment names that contract's definition.
+#![tactic(auto)]
 
 // What they take and what they answer.
 ghost use Rattle.std.specs.Prelude.{◌≡◌, length};

@@ -1,4 +1,6 @@
 // Stated points: those that document 01 tests for 13 and 12.
+#![tactic(auto)]
+
 ghost use Rattle.std.specs.Prelude.{◌≡◌, leb, nat_abs};
 ghost use Rattle.refusals.specs.Limits.{farthest};
 ghost use Rattle.stated.specs.Stated.{meaning, near, judged, stated_at};
@@ -8,7 +10,7 @@ use points::Point;
 use refusals::Refusal;
 
 // A stated point: where it lies, or why it is refused.
-#[derive(Drop)]
+#[derive(Clone, Copy)]
 pub enum Stated {
     At(Point),
     Refused(Refusal),

@@ -1,5 +1,7 @@
 // Document 01's example of a full table: a 503 x 1 bitmap, black at even x, looked up from left to right.
 // The 252nd lookup gets byte 5, and x = 0 is 1 again. Writes the bytes at x = 0, 2, 500 and 502 after that, and the table's count.
+#![tactic(auto)]
+
 ghost use Rattle.std.specs.Prelude.{◌≡◌, length};
 ghost use Rattle.regions.specs.declared.ColoredRegion.{ColoredRegion};
 ghost use Rattle.regions.specs.Found.{meaning};

@@ -1,3 +1,5 @@
+#![tactic(auto)]
+
 ghost use Rattle.std.specs.Prelude.{◌≡◌, ◌≤◌};
 ghost use Rattle.table.specs.Table.{empty_table, copy_of};
 
@@ -8,7 +10,7 @@ pub use age::{place_of, put_first};
 pub use sound::is_sound;
 
 // A region as the table keeps it: the pixel that it was met at, and how many pixels it has.
-#[derive(Drop)]
+#[derive(Clone, Copy)]
 pub struct Entry {
     pub x: u16,
     pub y: u16,
@@ -16,7 +18,7 @@ pub struct Entry {
 }
 
 // The region table: n entries, each at its number, and these numbers by age, the newest first.
-#[derive(Drop)]
+#[derive(Clone, Copy)]
 pub struct Table {
     pub entries: [Entry; 251],
     pub age: [u8; 251],

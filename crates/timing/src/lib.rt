@@ -1,4 +1,6 @@
 // The timing pattern between three stones, and the grid size that it tells (identify/grid.rs, `measure_timing_pattern`).
+#![tactic(auto)]
+
 mod scan;
 mod size;
 
@@ -16,7 +18,7 @@ pub use size::grid_size;
 use stated::{Stated, state};
 
 // A measured grid: the modules along its side, or a refusal.
-#[derive(Drop)]
+#[derive(Clone, Copy)]
 pub enum Measured {
     Size(usize),
     Refused(Refusal),

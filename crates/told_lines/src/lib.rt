@@ -1,3 +1,5 @@
 // The calls on lines and scans.
+#![tactic(auto)]
+
 pub mod line;
 pub mod scan;

@@ -1,4 +1,6 @@
 // The calls on pictures, a byte for each pixel, line by line, in a slice of width x height.
+#![tactic(auto)]
+
 ghost use Rattle.std.specs.Prelude.{◌≡◌};
 ghost use Rattle.refusals.specs.First.{first, sound};
 ghost use Rattle.picture.specs.Verdict.{judged};

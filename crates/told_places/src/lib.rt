@@ -1,5 +1,7 @@
 // What several calls tell, into the places of lent slices: a point, a perspective's coefficients, a region table; and the number of a verdict.
 // And a region table out of them.
+#![tactic(auto)]
+
 pub mod coefficients;
 pub mod entries;
 pub mod lent;

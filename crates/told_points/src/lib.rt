@@ -1,3 +1,5 @@
 // The calls on numbers and perspectives: round, create, map and unmap.
+#![tactic(auto)]
+
 pub mod perspective;
 pub mod whole;

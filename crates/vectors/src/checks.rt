@@ -11,7 +11,7 @@ use points::Point;
 use refusals::{Refusal, number_of};
 
 // How far a case is compared, and whether all was the same so far.
-#[derive(Drop)]
+#[derive(Clone, Copy)]
 pub struct Check {
     pub at: usize,
     pub same: bool,

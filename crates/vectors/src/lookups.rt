@@ -10,7 +10,7 @@ use regions::{ColoredRegion, Region, look_up};
 use table::Table;
 
 // A run so far.
-#[derive(Drop)]
+#[derive(Clone, Copy)]
 struct Run {
     table: Table,
     check: Check,

@@ -1,6 +1,8 @@
 // Replays recorded answers of the Rust. Standard input holds cases, each on a line: a letter for its kind, five hex digits for the number of bytes behind
 // them, and then words, each behind a space: what an operation is called with, and what it answers. oracle/README.md says how they were recorded.
 // It writes, for each kind, how many cases it compared, and how many differ.
+#![tactic(auto)]
+
 mod bitmaps;
 mod cells_read;
 mod checks;
@@ -20,7 +22,7 @@ use libc::STDIN_FILENO;
 use tally::Tally;
 
 // A case's kind, and how many bytes it has; none at the end of the input.
-#[derive(Drop)]
+#[derive(Clone, Copy)]
 struct Head {
     there: bool,
     kind: usize,

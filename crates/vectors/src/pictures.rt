@@ -56,7 +56,7 @@ pub fn draw_bytes(text: &[u8], pic: &mut [u8])
 }
 
 // A picture as it stands in a case: its sides, how many pixels it has, and where its digits end.
-#[derive(Drop)]
+#[derive(Clone, Copy)]
 pub struct Drawn {
     pub width: usize,
     pub height: usize,

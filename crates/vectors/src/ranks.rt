@@ -7,7 +7,7 @@ use capstones::{CapStone, blank};
 use match_capstones::{Pair, Ranking, find_and_rank_possible_neighbors};
 
 // Stones, and where they end.
-#[derive(Drop)]
+#[derive(Clone, Copy)]
 struct Seen {
     stones: [CapStone; 64],
     next: usize,

@@ -6,21 +6,21 @@ use groups::CapStoneGroup;
 use points::Point;
 
 // A point, and where it ends.
-#[derive(Drop)]
+#[derive(Clone, Copy)]
 pub struct PointHere {
     pub point: Point,
     pub next: usize,
 }
 
 // A float, and where it ends.
-#[derive(Drop)]
+#[derive(Clone, Copy)]
 struct FloatHere {
     x: f64,
     next: usize,
 }
 
 // Four floats, and where they end.
-#[derive(Drop)]
+#[derive(Clone, Copy)]
 struct FourHere {
     a: f64,
     b: f64,
@@ -30,21 +30,21 @@ struct FourHere {
 }
 
 // A perspective, and where it ends.
-#[derive(Drop)]
+#[derive(Clone, Copy)]
 pub struct SightHere {
     pub c: Perspective,
     pub next: usize,
 }
 
 // A stone, and where it ends.
-#[derive(Drop)]
+#[derive(Clone, Copy)]
 pub struct StoneHere {
     pub stone: CapStone,
     pub next: usize,
 }
 
 // A group of stones, and where it ends.
-#[derive(Drop)]
+#[derive(Clone, Copy)]
 pub struct GroupHere {
     pub group: CapStoneGroup,
     pub next: usize,

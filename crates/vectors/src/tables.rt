@@ -4,7 +4,7 @@ use crate::words::read_word;
 use table::{Entry, Table, empty};
 
 // One place of a table, and where it ends.
-#[derive(Drop)]
+#[derive(Clone, Copy)]
 struct Place {
     age: u8,
     entry: Entry,
@@ -12,7 +12,7 @@ struct Place {
 }
 
 // A table, and where it ends.
-#[derive(Drop)]
+#[derive(Clone, Copy)]
 pub struct Listed {
     pub table: Table,
     pub next: usize,

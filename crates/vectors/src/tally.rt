@@ -2,7 +2,7 @@
 use libc::STDOUT_FILENO;
 
 // A count for each of 16 kinds.
-#[derive(Drop)]
+#[derive(Clone, Copy)]
 pub struct Tally {
     pub compared: [u64; 16],
     pub different: [u64; 16],

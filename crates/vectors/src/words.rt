@@ -5,7 +5,7 @@ ghost use Rattle.std.specs.Float.Ieee.{to_bits, of_bits};
 ghost use Rattle.vectors.specs.Words.{digit_of, digit_at, word_at};
 
 // What a word says, and where it ends.
-#[derive(Drop)]
+#[derive(Clone, Copy)]
 pub struct Word {
     pub value: u64,
     pub next: usize,

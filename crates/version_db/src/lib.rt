@@ -1,4 +1,6 @@
 // Where the alignment patterns of each version stand (version_db.rs).
+#![tactic(auto)]
+
 ghost use Rattle.std.specs.Prelude.{◌≡◌, ◌≤◌, ◌<◌};
 ghost use Rattle.version_db.specs.AnnexE.{position_of, size_of};
 

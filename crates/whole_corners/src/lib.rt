@@ -1,1 +1,2 @@
 // The perspective of whole corners, bit for bit. Laws alone: specs/ and proofs/.
+#![tactic(auto)]
