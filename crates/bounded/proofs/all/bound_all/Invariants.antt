@@ -1,0 +1,15 @@
+-- `bound_all` goes from grid to grid, until they end or one is refused. Assumes nothing.
+use Prim.Native.Nat.{◌≤◌, ◌-◌}
+use native.Mathlib.Omega.{arith}
+use mathlib.Core.Path.{◌≡◌, sym, ◌∙◌}
+use lib.ListN.{length, take}
+use borrow.Author.Tests.{not-true, not-false}
+use borrow.Author.Rules.{rules}
+use Rattle.bounded.proofs.Bounding.{AfterGrids, grids_begin, array_end, array_stop, array_next}
+use Rattle.bounded.proofs.all.bound_all.Given as goal
+
+abbrev pub invariant-loop-k : goal.invariant-loop-k
+invariant-loop-k l = AfterGrids (take l.n l.locations) l.k l.sofar × (l.k ≤ l.n)
+
+abbrev pub decreases-loop-k : goal.decreases-loop-k
+decreases-loop-k l = l.n - l.k

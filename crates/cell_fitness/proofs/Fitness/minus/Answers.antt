@@ -1,0 +1,7 @@
+-- `minus` adds the opposite. Assumes nothing.
+use native.Mathlib.Omega.{arith}
+use borrow.Author.Rules.{rules}
+use Rattle.cell_fitness.proofs.Fitness.minus.Goals as goal
+
+pub returns : goal.returns
+returns c = record { is = rw (c.plus.ensures.is, c.opposite.ensures.is); small = omega arith }

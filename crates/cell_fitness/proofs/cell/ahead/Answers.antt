@@ -1,0 +1,22 @@
+-- `ahead` goes by the rounded coordinate, which is not below 0. Assumes nothing.
+use mathlib.Core.Path.{◌≡◌, sym, ◌∙◌}
+use mir.Syntax.{w32}
+use mir.Val.{to_z, of_z}
+use Rattle.cell_fitness.specs.Along.{along}
+use Rattle.cell_fitness.proofs.Places.{not_below, along_it}
+use borrow.Author.Rules.{rules}
+use Rattle.cell_fitness.proofs.cell.ahead.Goals as goal
+
+pub from_zero-requires : goal.from_zero-requires
+from_zero-requires c =
+    let e : to_z w32 (of_z w32 c.in-At.i) ≡ c.in-At.i = search rules in
+    rw e (not_below _ c.in-At.i c.requires (sym c.nearest.ensures ∙ c.in-At.is))
+
+pub returns-in-At : goal.returns-in-At
+returns-in-At c =
+    let e : to_z w32 (of_z w32 c.in-At.i) ≡ c.in-At.i = search rules in
+    along_it _ _ c.in-At.i (sym c.nearest.ensures ∙ c.in-At.is) (c.from_zero.ensures ∙ e)
+
+pub returns-in-Off : goal.returns-in-Off
+unfolding along
+returns-in-Off c = rw (← c.nearest.ensures, c.in-Off.is)

@@ -1,0 +1,8 @@
+-- `land` takes both coordinates. Assumes nothing.
+use Rattle.cell_fitness.specs.Landed.{landed}
+use borrow.Author.Rules.{rules}
+use Rattle.cell_fitness.proofs.cell.land.Goals as goal
+
+pub returns : goal.returns
+unfolding landed
+returns c = rw (c.across-right.ensures, c.down-below.ensures)

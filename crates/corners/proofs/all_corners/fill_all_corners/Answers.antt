@@ -1,0 +1,47 @@
+-- `fill_all_corners` paints its piece and shows the finder each row: each need is a law of Looking. Assumes nothing.
+use native.Mathlib.Omega.{arith}
+use borrow.Author.Rules.{rules}
+use lib.ListN.{length}
+use Rattle.fill.proofs.Filling.{task_of, room_some}
+use Rattle.fill.proofs.Measure.{to_do}
+use Rattle.corners.specs.Rows.{by_ends}
+use Rattle.corners.specs.Scores.{Direction}
+use Rattle.corners.specs.Finders.{all_corners_see}
+use Rattle.corners.specs.declared.all_corners.AllCornerFinder.{AllCornerFinder}
+use Rattle.corners.proofs.Looking.{Looking, looking-begun, looking_asks, looking_row, looking_met, looking_met_less, looking_passed, looking_passed_less, looking_end}
+use Rattle.corners.proofs.all_corners.fill_all_corners.Goals as goal
+use Rattle.corners.proofs.all_corners.fill_all_corners.Invariants.{Ready}
+
+pub seed-from-requires : goal.seed-from-requires
+seed-from-requires c = (c.requires.fact_1.sized, c.requires.fact_1.in_x, c.requires.fact_1.in_y, room_some c.requires.fact_1)
+
+pub loop-sp-init : goal.loop-sp-init
+loop-sp-init c =
+    looking-begun (by_ends all_corners_see) c.requires.fact_1 c.requires.fact_2 c.requires.fact_3 c.seed-from.ensures.0 (search rules) c.seed-from.ensures.1
+
+pub fill_step-requires : goal.fill_step-requires
+fill_step-requires c = looking_asks c.loop-sp.invariant c.loop-sp-test.true
+
+pub update-found-requires : goal.update-found-requires
+update-found-requires c = {- RECORD fact_1 fact_2 -}
+    looking_row c.loop-sp.invariant c.loop-sp-test.true c.fill_step.ensures c.in-Met.is (search rules) (search rules)
+
+pub loop-sp-smaller-in-Met : goal.loop-sp-smaller-in-Met
+loop-sp-smaller-in-Met c =
+    looking_met_less c.loop-sp.invariant c.loop-sp-test.true c.fill_step.ensures c.in-Met.is
+
+pub loop-sp-preserved-in-Met : goal.loop-sp-preserved-in-Met
+unfolding by_ends all_corners_see
+loop-sp-preserved-in-Met c =
+    looking_met c.loop-sp.invariant c.loop-sp-test.true c.fill_step.ensures c.in-Met.is (λ f row ready. ready) (search rules) (search rules) c.update-found.ensures
+
+pub loop-sp-smaller : goal.loop-sp-smaller
+loop-sp-smaller c =
+    looking_passed_less c.loop-sp.invariant c.loop-sp-test.true c.fill_step.ensures c.in-Passed.is
+
+pub loop-sp-preserved : goal.loop-sp-preserved
+loop-sp-preserved c =
+    looking_passed c.loop-sp.invariant c.loop-sp-test.true c.fill_step.ensures c.in-Passed.is (search rules) (search rules)
+
+pub returns : goal.returns
+returns c = looking_end c.loop-sp.invariant (omega arith)

@@ -1,0 +1,22 @@
+-- `fill_all_corners` paints its piece and shows the finder each row: each need is a law of Looking. Assumes nothing.
+use native.Mathlib.Omega.{arith}
+use borrow.Author.Rules.{rules}
+use lib.ListN.{length}
+use Rattle.fill.proofs.Filling.{task_of, room_some}
+use Rattle.fill.proofs.Measure.{to_do}
+use Rattle.corners.specs.Rows.{by_ends}
+use Rattle.corners.specs.Scores.{Direction}
+use Rattle.corners.specs.Finders.{all_corners_see}
+use Rattle.corners.specs.declared.all_corners.AllCornerFinder.{AllCornerFinder}
+use Rattle.corners.proofs.Looking.{Looking, looking-begun, looking_asks, looking_row, looking_met, looking_met_less, looking_passed, looking_passed_less, looking_end}
+use Rattle.corners.proofs.all_corners.fill_all_corners.Given as goal
+
+abbrev pub Ready : AllCornerFinder → Type 0
+Ready f = Direction f.baseline
+
+abbrev pub invariant-loop-sp : goal.invariant-loop-sp
+invariant-loop-sp l =
+    Looking Ready (by_ends all_corners_see) l.initial.found (task_of l.initial.pic l.w l.h l.x l.y l.to) (length l.initial.stack) l.from l.pic l.stack l.sp l.found
+
+abbrev pub decreases-loop-sp : goal.decreases-loop-sp
+decreases-loop-sp l = to_do l.from l.pic l.sp

@@ -1,0 +1,21 @@
+-- `along` computes how far a point lies in a direction: no step of it leaves the range of an i32. Assumes nothing.
+use borrow.Author.Rules.{rules}
+use lib.Dec.{lit<}
+use Rattle.corners.specs.Scores.{along_of}
+use Rattle.corners.proofs.Signed.{is_add, is_back}
+use Rattle.corners.proofs.Small.{is_scaled, scaled_fits, sum_fits}
+use Rattle.corners.proofs.scores.along.Goals as goal
+
+pub overflow_mul-result : goal.overflow_mul-result
+overflow_mul-result c = search (rules, scaled_fits)
+
+pub overflow_mul-result-2 : goal.overflow_mul-result-2
+overflow_mul-result-2 c = search (rules, scaled_fits)
+
+pub overflow_add-result : goal.overflow_add-result
+overflow_add-result c = search (rules, sum_fits)
+
+pub returns : goal.returns
+unfolding along_of
+returns c =
+    is_back (is_add (is_scaled c.requires.fact_2.x c.requires.fact_1.x) (is_scaled c.requires.fact_2.y c.requires.fact_1.y) (lit< tt))

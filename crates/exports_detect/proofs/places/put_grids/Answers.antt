@@ -1,0 +1,39 @@
+-- `put_grids` writes an array's grids one after the other. Assumes nothing.
+use Prim.Native.Nat.{ℕ, ◌-◌, ◌≤◌}
+use native.Mathlib.Omega.{arith}
+use mathlib.Core.Path.{◌≡◌, refl, sym, ◌∙◌}
+use lib.ListN.{length}
+use borrow.Author.Rules.{rules}
+use Rattle.told_places.specs.Put.{put_each}
+use Rattle.told_places.specs.Values.{floats_of}
+use Rattle.exports_detect.specs.Tells.{places_of, grid_at, all_places, all_floats}
+use Rattle.told_places.proofs.Places.{each_next, each_last}
+use Rattle.exports_detect.proofs.places.put_grids.Goals as goal
+
+pub loop-k-init : goal.loop-k-init
+loop-k-init c = (refl, refl, refl, refl, omega arith)
+
+pub put_places-requires : goal.put_places-requires
+put_places-requires c =
+    omega (arith, c.loop-k-test.true, c.loop-k.invariant.2, c.requires.fact_1)
+
+pub put_floats-requires : goal.put_floats-requires
+put_floats-requires c =
+    omega (arith, c.loop-k-test.true, c.loop-k.invariant.3, c.requires.fact_2)
+
+pub loop-k-preserved : goal.loop-k-preserved
+loop-k-preserved c =
+    (
+      rw c.put_places.ensures (sym (each_next _ 9 31 c.loop-k.k c.loop-k.places c.loop-k-test.true) ∙ c.loop-k.invariant.0),
+      rw c.put_floats.ensures (sym (each_next _ 8 31 c.loop-k.k c.loop-k.floats c.loop-k-test.true) ∙ c.loop-k.invariant.1),
+      omega (arith, c.loop-k.invariant.2, c.put_places.auto.1.1.0),
+      omega (arith, c.loop-k.invariant.3, c.put_floats.auto.1.1.0),
+      omega (arith, c.loop-k-test.true),
+    )
+
+pub returns : goal.returns
+returns c =
+    (
+      sym (each_last _ 9 31 c.loop-k.k c.loop-k.places c.loop-k-test.false) ∙ c.loop-k.invariant.0,
+      sym (each_last _ 8 31 c.loop-k.k c.loop-k.floats c.loop-k-test.false) ∙ c.loop-k.invariant.1,
+    )

@@ -1,0 +1,29 @@
+-- `put_pairs` writes an array's pairs one after the other. Assumes nothing.
+use Prim.Native.Nat.{ℕ, ◌-◌, ◌≤◌}
+use native.Mathlib.Omega.{arith}
+use mathlib.Core.Path.{◌≡◌, refl, sym, ◌∙◌}
+use lib.ListN.{length, get_or}
+use borrow.Author.Rules.{rules}
+use Rattle.match_capstones.specs.Answer.{no_pair}
+use Rattle.told_places.specs.Put.{put_each}
+use Rattle.told_places.proofs.Places.{each_next, each_last}
+use Rattle.exports_ranking.specs.Ranks.{pair_numbers, all_pairs}
+use Rattle.exports_ranking.proofs.pairs.put_pairs.Goals as goal
+
+pub loop-k-init : goal.loop-k-init
+loop-k-init c = (refl, refl, omega arith)
+
+pub put_pair-requires : goal.put_pair-requires
+put_pair-requires c =
+    omega (arith, c.loop-k-test.true, c.loop-k.invariant.1, c.requires)
+
+pub loop-k-preserved : goal.loop-k-preserved
+loop-k-preserved c =
+    (
+      rw c.put_pair.ensures (sym (each_next _ 2 992 c.loop-k.k c.loop-k.out c.loop-k-test.true) ∙ c.loop-k.invariant.0),
+      omega (arith, c.loop-k.invariant.1, c.put_pair.auto.1.1.0),
+      omega (arith, c.loop-k-test.true),
+    )
+
+pub returns : goal.returns
+returns c = sym (each_last _ 2 992 c.loop-k.k c.loop-k.out c.loop-k-test.false) ∙ c.loop-k.invariant.0

@@ -1,0 +1,13 @@
+-- `past_run` answers the first column that shows another byte: at each turn the one from where it stands is the one from x. Assumes nothing.
+use Prim.Native.Nat.{◌≤◌, ◌-◌}
+use native.Mathlib.Omega.{arith}
+use mathlib.Core.Path.{◌≡◌, refl, sym, ◌∙◌}
+use Rattle.fill.specs.Stretch.{past_run}
+use Rattle.fill.proofs.Stretches.{run_none, run_here, run_on}
+use Rattle.fill.proofs.seeds.past_run.Given as goal
+
+abbrev pub invariant-loop-k : goal.invariant-loop-k
+invariant-loop-k l = (past_run l.pic l.base l.from l.x (l.end - l.x) ≡ past_run l.pic l.base l.from l.k (l.end - l.k)) × (l.k ≤ l.end)
+
+abbrev pub decreases-loop-k : goal.decreases-loop-k
+decreases-loop-k l = l.end - l.k

@@ -1,0 +1,18 @@
+-- `fitness_columns` takes one column after the other. Assumes nothing.
+use Prim.Native.Nat.{◌+◌, ◌-◌, ◌*◌, ◌≤◌}
+use native.Mathlib.Omega.{arith}
+use mathlib.Core.Path.{◌≡◌}
+use Rattle.version_db.specs.AnnexE.{count_of, position_of}
+use Rattle.fitness.specs.Expected.{each, column, columns}
+use Rattle.cell_fitness.specs.Scores.{Scores}
+use Rattle.fitness.specs.Fitness.{score_of}
+use Rattle.fitness.proofs.Totals.{no_turns, one_more}
+use borrow.Author.Rules.{rules}
+use Rattle.fitness.proofs.alignment.fitness_columns.Given as goal
+
+abbrev pub invariant-loop-i : goal.invariant-loop-i
+invariant-loop-i l =
+    (l.i ≤ l.n - 1) × Scores (score_of l.pic l.width l.height l.c (each l.i (λ l.i. column l.version (position_of l.version (1 + l.i))))) (1350 * l.i) l.score
+
+abbrev pub decreases-loop-i : goal.decreases-loop-i
+decreases-loop-i l = l.n - l.i

@@ -1,0 +1,42 @@
+-- `fit_all` goes from group to group, until they end or one is refused. Assumes nothing.
+use Prim.Native.Nat.{◌≤◌, ◌-◌}
+use native.Mathlib.Nat.{le_refl}
+use native.Mathlib.Omega.{arith}
+use mathlib.Core.Path.{◌≡◌, refl, sym, ◌∙◌}
+use lib.ListN.{length, length-map, take}
+use borrow.Author.Tests.{not-true, not-false}
+use borrow.Author.Rules.{rules}
+use Rattle.table.proofs.Exact.{sound_exact}
+use Rattle.table.proofs.Kept.{Proper}
+use Rattle.setups.proofs.Known.{remembers_after}
+use Rattle.locations.proofs.Passing.{AfterGroups, groups_begin, array_end, array_stop, array_next, next_workable}
+use Rattle.locations.proofs.pass.fit_all.Goals as goal
+
+pub loop-k-init : goal.loop-k-init
+loop-k-init c =
+    (groups_begin c.no_locations-sofar.result (rw c.no_locations-sofar.ensures.2 (proper c.before.before.before)) c.no_locations-sofar.ensures.0 c.no_locations-sofar.ensures.1 refl, omega arith, refl, refl)
+
+pub fit_one-sofar-requires : goal.fit_one-sofar-requires
+fit_one-sofar-requires c =
+    (next_workable c.requires.0 c.loop-k.invariant.0.kept (omega (arith, c.loop-k.invariant.3)), c.requires.2 c.loop-k.k c.loop-k-test.true, c.loop-k.invariant.0.held, omega (arith, c.loop-k.invariant.0.few, c.loop-k-test.true, c.requires.1), remembers_after _ _ c.loop-k.invariant.0.kept.white (c.requires.3 c.loop-k.k))
+
+pub returns-then-not-is_sound : goal.returns-then-not-is_sound
+returns-then-not-is_sound c =
+    let stops = sym c.is_sound.ensures ∙ not-true _ c.if-not-is_sound.true in
+    let F = array_stop c.args.t7 c.args.n (omega (arith, long c.before.before.before.before.before.before.before.before.before.before.before.before.before.before.before.before, c.requires.1)) c.loop-k.invariant.0 c.loop-k-test.true c.fit_one-sofar.ensures stops in
+    (rw c.no_locations-sofar.ensures.2 at F, c.fit_one-sofar.ensures.laid)
+
+pub loop-k-preserved : goal.loop-k-preserved
+loop-k-preserved c =
+    let goes = sym c.is_sound.ensures ∙ not-false _ c.if-not-is_sound.false in
+    let W = next_workable c.requires.0 c.loop-k.invariant.0.kept (le_refl _) in (
+      array_next c.args.t7 c.args.n (omega (arith, long c.before.before.before.before.before.before.before.before.before.before.before.before.before.before.before.before, c.requires.1)) c.loop-k.invariant.0 c.loop-k-test.true c.fit_one-sofar.ensures W.roomy (c.requires.2 c.loop-k.k c.loop-k-test.true) goes,
+      omega arith,
+      omega (arith, c.loop-k.invariant.2, c.fit_one-sofar.auto.0),
+      omega (arith, c.loop-k.invariant.3, c.fit_one-sofar.auto.1.1.1.0),
+    )
+
+pub returns : goal.returns
+returns c =
+    let F = array_end c.args.t7 c.args.n (omega (arith, long c.before.before.before.before.before, c.requires.1)) c.loop-k.invariant.0 (omega arith) in
+    (rw c.no_locations-sofar.ensures.2 at F, c.loop-k.invariant.0.held.laid)

@@ -1,0 +1,20 @@
+-- `fit_all` goes from group to group, until they end or one is refused. Assumes nothing.
+use Prim.Native.Nat.{◌≤◌, ◌-◌}
+use native.Mathlib.Nat.{le_refl}
+use native.Mathlib.Omega.{arith}
+use mathlib.Core.Path.{◌≡◌, refl, sym, ◌∙◌}
+use lib.ListN.{length, length-map, take}
+use borrow.Author.Tests.{not-true, not-false}
+use borrow.Author.Rules.{rules}
+use Rattle.table.proofs.Exact.{sound_exact}
+use Rattle.table.proofs.Kept.{Proper}
+use Rattle.setups.proofs.Known.{remembers_after}
+use Rattle.locations.proofs.Passing.{AfterGroups, groups_begin, array_end, array_stop, array_next, next_workable}
+use Rattle.locations.proofs.pass.fit_all.Given as goal
+
+abbrev pub invariant-loop-k : goal.invariant-loop-k
+invariant-loop-k l =
+    AfterGroups l.width l.height l.stones (take l.n l.groups) l.initial.pic l.initial.sofar.table l.k l.pic l.sofar × (l.k ≤ l.n) × (length l.pic ≡ length l.initial.pic) × (length l.stack ≡ length l.initial.stack)
+
+abbrev pub decreases-loop-k : goal.decreases-loop-k
+decreases-loop-k l = l.n - l.k

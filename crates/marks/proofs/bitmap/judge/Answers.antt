@@ -1,0 +1,19 @@
+-- `judge` goes on from `room`: what that refuses stands, else `accept` tests the bytes. Assumes nothing.
+use mathlib.Core.Path.{sym, ◌∙◌}
+use mathlib.Core.List.{[], ◌∷◌}
+use lib.ListN.{length}
+use borrow.Author.Rules.{rules}
+use Rattle.refusals.specs.First.{sound}
+use Rattle.picture.specs.Sides.{room_tests}
+use Rattle.picture.specs.Bitmap.{byte_test}
+use Rattle.picture.proofs.Judged.{refusal_stands, sound_clear}
+use Rattle.marks.proofs.Begin.{then_bytes}
+use Rattle.marks.proofs.bitmap.judge.Goals as goal
+
+pub returns-in-Refused : goal.returns-in-Refused
+returns-in-Refused c =
+    refusal_stands (room_tests c.args.width c.args.height (length c.args.pic.now) c.args.lent) (byte_test c.args.pic.now ∷ []) sound c.room.ensures c.in-Refused.is
+
+pub returns-in-Sound : goal.returns-in-Sound
+returns-in-Sound c =
+    c.accept.ensures ∙ sym (then_bytes c.args.pic.now c.args.width c.args.height c.args.lent (sound_clear (room_tests c.args.width c.args.height (length c.args.pic.now) c.args.lent) c.room.ensures c.in-Sound.is))

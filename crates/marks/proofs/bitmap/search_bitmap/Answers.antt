@@ -1,0 +1,25 @@
+-- `search_bitmap` refuses what `judge` refuses, and else searches from an empty table. Assumes nothing.
+use mathlib.Core.Path.{◌≡◌, refl, sym, ap, ◌∙◌}
+use lib.ListN.{length}
+use borrow.Author.Rules.{rules}
+use Rattle.refusals.specs.First.{first, sound}
+use Rattle.picture.specs.Verdict.{judged}
+use Rattle.marks.specs.OfBitmap.{bitmap_tests, refuses, searches}
+use Rattle.marks.proofs.Begin.{begins_work}
+use Rattle.marks.proofs.bitmap.search_bitmap.Goals as goal
+use Rattle.marks.proofs.bitmap.search_bitmap.Tie as tie
+
+-- no test applies
+passed : (c : tie.In-Sound) → first (bitmap_tests c.args.pic.now c.args.width c.args.height (length c.args.stack.now)) sound ≡ sound
+passed c = sym c.judge.ensures ∙ ap judged c.in-Sound.is
+
+pub capstones_from_image-requires : goal.capstones_from_image-requires
+capstones_from_image-requires c = rw c.empty-in-Sound.ensures (begins_work _ _ _ _ (passed c.before.before.before))
+
+pub returns-in-Refused : goal.returns-in-Refused
+returns-in-Refused c =
+    refuses _ (sym c.judge.ensures ∙ ap judged c.in-Refused.is) refl c.refused.ensures.0 (c.refused.ensures.2 ∙ c.empty.ensures) c.refused.ensures.1
+
+pub returns-in-Sound : goal.returns-in-Sound
+returns-in-Sound c =
+    searches (passed c.before.before.before.before.before.before.before.before) (rw c.empty-in-Sound.ensures at c.capstones_from_image.ensures.0) c.capstones_from_image.ensures.1

@@ -1,0 +1,90 @@
+-- `capstones_from_image` goes from cut to cut, until the picture ends or a cut is refused. Assumes nothing.
+use native.Mathlib.Omega.{arith}
+use Prim.Native.Nat.{◌≤◌}
+use mathlib.Core.Path.{◌≡◌, refl, ap}
+use lib.ListN.{length}
+use borrow.Author.Rules.{rules}
+use Rattle.marks.specs.Cuts.{cuts_after}
+use Rattle.marks.specs.Stone.{meaning}
+use Rattle.marks.proofs.Cut.{ring_lookable, stone_lookable, markable, tries_of}
+use Rattle.marks.proofs.Searching.{Over, reached, found_stones, tries_fit, takes_stone, takes_nothing, takes_refusal, over_begun, over_ends, over_less, over_asks, over_stops, over_next}
+use Rattle.marks.proofs.Whole.{all_stand}
+use Rattle.marks.proofs.search.capstones_from_image.Goals as goal
+use Rattle.marks.proofs.search.capstones_from_image.Tie as tie
+
+pub loop-line-init : goal.loop-line-init
+loop-line-init c =
+    (over_begun (all_stand _ _ _) (rw c.no_marks-marks.ensures.2 c.requires) c.no_marks-marks.ensures.0 c.no_marks-marks.ensures.1 c.new-scan.ensures, refl, refl)
+
+pub next_cut-requires : goal.next_cut-requires
+next_cut-requires c =
+    (c.loop-line.invariant.0.goes.work.roomy.sized, c.loop-line.invariant.0.low, c.loop-line.invariant.0.on)
+
+pub returns-in_default : goal.returns-in_default
+returns-in_default c =
+    (rw c.no_marks-marks.ensures.2 at (over_ends c.loop-line.invariant.0 (reached c.in_default.is c.next_cut.ensures)), c.loop-line.invariant.0.laid)
+
+pub get_region-ring-requires : goal.get_region-ring-requires
+get_region-ring-requires c =
+    ring_lookable (over_asks c.loop-line.invariant.0 (reached c.in-At.is c.next_cut.ensures))
+
+-- the room that each lookup leaves lent
+room_after : (c : tie.After-get-region invariant-loop decreases-loop) → length c.before.before.before.before.before.before.before.before.loop.stack ≤ length c.get-region.new.1.1.1.0
+room_after c = omega (arith, c.get-region.auto.1.1.1.0)
+
+room_then : (c : tie.After-get-region2 invariant-loop decreases-loop) → length c.before.before.before.before.before.before.before.before.get-region.new.1.1.1.0 ≤ length c.get-region2.new.1.1.1.0
+room_then c = omega (arith, c.get-region2.auto.1.1.1.0)
+
+pub get_region-stone-requires : goal.get_region-stone-requires
+get_region-stone-requires c =
+    stone_lookable (over_asks c.loop-line.invariant.0 (reached c.in-At.is c.next_cut.ensures)) (room_after c.before.before.before.before.before.before.before) c.get_region-ring.ensures
+
+pub mark_at-requires : goal.mark_at-requires
+mark_at-requires c =
+    markable c.get_region-ring.ensures c.get_region-stone.ensures (over_asks c.loop-line.invariant.0 (reached c.in-At.is c.next_cut.ensures)) (room_after c.before.before.before.before.before.before.before.before.before.before.before.before.before.before.before) (room_then c.before.before.before.before.before.before.before)
+
+pub with_stone-marks-requires : goal.with_stone-marks-requires
+with_stone-marks-requires c =
+    (c.loop-line.invariant.0.laid, c.loop-line.invariant.0.going, tries_fit (tries_of c.get_region-ring.ensures c.get_region-stone.ensures c.mark_at.ensures) (ap meaning c.in-Stone.is))
+
+-- the lengths after a cut are those before it
+pic_kept : (c : tie.After-mark-at invariant-loop decreases-loop) → length c.mark-at.new.0 ≡ length c.before.before.before.before.before.before.before.before.before.before.before.before.before.before.before.before.before.before.before.before.before.before.before.before.loop.pic
+pic_kept c =
+    let second = c.before.before.before.before.before.before.before.before in
+    omega (arith, c.mark-at.auto.0, second.get-region2.auto.0, second.before.before.before.before.before.before.before.before.get-region.auto.0)
+
+stack_kept : (c : tie.After-mark-at invariant-loop decreases-loop) → length c.mark-at.new.1.1.1.0 ≡ length c.before.before.before.before.before.before.before.before.before.before.before.before.before.before.before.before.before.before.before.before.before.before.before.before.loop.stack
+stack_kept c =
+    let second = c.before.before.before.before.before.before.before.before in
+    omega (arith, c.mark-at.auto.1.1.1.0, second.get-region2.auto.1.1.1.0, second.before.before.before.before.before.before.before.before.get-region.auto.1.1.1.0)
+
+pub shape_of-pic-in-Refused : goal.shape_of-pic-in-Refused
+shape_of-pic-in-Refused c =
+    omega (arith, c.loop-line.invariant.1, pic_kept c.before.before.before.before.before.before.before.before)
+
+pub shape_of-stack-in-Refused : goal.shape_of-stack-in-Refused
+shape_of-stack-in-Refused c =
+    omega (arith, c.loop-line.invariant.2, stack_kept c.before.before.before.before.before.before.before.before)
+
+pub returns-in-Refused : goal.returns-in-Refused
+returns-in-Refused c =
+    let K = takes_refusal (tries_of c.get_region-ring.ensures c.get_region-stone.ensures c.mark_at.ensures) (ap meaning c.in-Refused.is) c.refused.ensures in
+    (rw c.no_marks-marks.ensures.2 at (over_stops c.loop-line.invariant.0 (reached c.in-At.is c.next_cut.ensures) K _ c.refused.ensures.0), K.laid)
+
+pub loop-line-smaller-in-Stone : goal.loop-line-smaller-in-Stone
+loop-line-smaller-in-Stone c =
+    over_less c.loop-line.invariant.0 (reached c.in-At.is c.next_cut.ensures)
+
+pub loop-line-preserved-in-Stone : goal.loop-line-preserved-in-Stone
+loop-line-preserved-in-Stone c =
+    let K = takes_stone (tries_of c.get_region-ring.ensures c.get_region-stone.ensures c.mark_at.ensures) (ap meaning c.in-Stone.is) c.with_stone-marks.ensures in
+    (over_next c.loop-line.invariant.0 (reached c.in-At.is c.next_cut.ensures) K (omega (arith, stack_kept c.before.before.before.before.before.before.before.before)) (found_stones c.with_stone-marks.result _ c.with_stone-marks.ensures.0).0, omega (arith, c.loop-line.invariant.1, pic_kept c.before.before.before.before.before.before.before.before), omega (arith, c.loop-line.invariant.2, stack_kept c.before.before.before.before.before.before.before.before))
+
+pub loop-line-smaller : goal.loop-line-smaller
+loop-line-smaller c =
+    over_less c.loop-line.invariant.0 (reached c.in-At.is c.next_cut.ensures)
+
+pub loop-line-preserved : goal.loop-line-preserved
+loop-line-preserved c =
+    let K = takes_nothing (tries_of c.get_region-ring.ensures c.get_region-stone.ensures c.mark_at.ensures) (ap meaning c.in-Dropped.is) c.loop-line.invariant.0.laid c.loop-line.invariant.0.going in
+    (over_next c.loop-line.invariant.0 (reached c.in-At.is c.next_cut.ensures) K (omega (arith, stack_kept c.before.before.before.before.before.before)) c.loop-line.invariant.0.going, omega (arith, c.loop-line.invariant.1, pic_kept c.before.before.before.before.before.before), omega (arith, c.loop-line.invariant.2, stack_kept c.before.before.before.before.before.before))

@@ -1,0 +1,29 @@
+-- `possible_sets` holds the sets that the neighbours passed make. There is room for all: the lists have no more than 63 in all. Assumes nothing.
+use Prim.Native.Nat.{◌+◌, ◌*◌, ◌≤◌, ◌<◌, ◌-◌}
+use native.Mathlib.Numerals.{add-one}
+use native.Mathlib.Omega.{arith}
+use mathlib.Core.Path.{◌≡◌, refl, sym, ap, ◌∙◌}
+use mathlib.Core.Bool.{true, false}
+use mathlib.Core.List.{List, ◌++◌, append-nil, flat_map}
+use borrow.Author.Rules.{rules}
+use borrow.Author.Tests.{not-true, not-false}
+use lib.ListN.{length, get_or, take}
+use lib.Seq.{length-take-le}
+use Rattle.match_capstones.specs.declared.Neighbor.{Neighbor}
+use Rattle.match_capstones.specs.Arrays.{Holds}
+use Rattle.match_capstones.specs.Scores.{viable, set_of, one_set, sets_of, made}
+use Rattle.match_capstones.proofs.Arrays.{holds_same}
+use Rattle.match_capstones.proofs.Next.{no_neighbor, flat_map_next, holds_nothing, holds_one}
+use Rattle.match_capstones.proofs.Count.{room_for_one}
+use Rattle.match_capstones.proofs.sets.possible_sets.Given as goal
+
+-- those of the neighbours passed of the first list with all of the second, and those of the next one with the neighbours passed of the second
+abbrev pub invariant-loop-i : goal.invariant-loop-i
+invariant-loop-i l =
+    (l.i ≤ l.hns.n)
+    × (l.j ≤ l.vns.n)
+    × (l.hns.n ≤ l.i → l.j ≡ 0)
+    × Holds 992 l.all l.n (made (take l.i l.hns.all) (take l.vns.n l.vns.all) ++ sets_of (take l.j l.vns.all) (get_or l.hns.all l.i no_neighbor))
+
+abbrev pub decreases-loop-i : goal.decreases-loop-i
+decreases-loop-i l = (l.hns.n - l.i) * 65 + (l.vns.n - l.j)

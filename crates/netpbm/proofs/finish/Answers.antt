@@ -1,0 +1,21 @@
+-- `finish` looks where the end leads. Assumes nothing.
+use mathlib.Core.Path.{sym, ap, subst, ◌∙◌}
+use Rattle.netpbm.specs.Machine.{ended_in, Bounded}
+use Rattle.netpbm.specs.declared.Input.TheVariants.{Refused}
+use Rattle.netpbm.proofs.Steps.{stepped_bounded, other_ends}
+use Rattle.netpbm.proofs.Told.{told}
+use borrow.Author.Rules.{rules}
+use Rattle.netpbm.proofs.finish.Goals as goal
+
+pub ended-requires : goal.ended-requires
+ended-requires c = subst Bounded (sym c.step-end.ensures ∙ c.in-Pixels.is) (stepped_bounded _ _ c.requires)
+
+pub returns-in-Pixels : goal.returns-in-Pixels
+unfolding ended_in
+returns-in-Pixels c =
+    told file pixels c.args.reader c.ended.result
+    (ap ended_in (sym c.step-end.ensures ∙ c.in-Pixels.is) ∙ sym c.ended.ensures) R
+
+pub returns-in_default : goal.returns-in_default
+returns-in_default c =
+    told file pixels c.args.reader Refused (ap ended_in (sym c.step-end.ensures) ∙ other_ends c.step-end.result c.in_default.keys2) R

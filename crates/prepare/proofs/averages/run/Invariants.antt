@@ -1,0 +1,16 @@
+-- `run` carries both averages along a row by the reciprocal of s, and keeps them column by column. Assumes nothing.
+use Prim.Native.Nat.{ℕ, ◌-◌, ◌*◌, ◌^◌, ◌≤◌, ◌<◌}
+use mathlib.Core.Path.{◌≡◌, refl}
+use native.Mathlib.Omega.{arith}
+use borrow.Author.Rules.{rules}
+use lib.ListN.{length, get_or, length-set}
+use Rattle.prepare.specs.Threshold.{step}
+use Rattle.prepare.proofs.Reciprocal.{step_by_reciprocal, reciprocal_low}
+use Rattle.prepare.proofs.Runs.{Midway, midway_starts, midway_goes_on, midway_ends}
+use Rattle.prepare.proofs.averages.run.Given as goal
+
+abbrev pub invariant-loop-x : goal.invariant-loop-x
+invariant-loop-x l = Midway l.s l.left l.right l.row l.lefts l.rights l.a l.b l.x l.r × (length l.lefts ≡ length l.initial.lefts) × (length l.rights ≡ length l.initial.rights)
+
+abbrev pub decreases-loop-x : goal.decreases-loop-x
+decreases-loop-x l = l.r

@@ -1,0 +1,16 @@
+-- `threshold` shades a picture row by row; the averages change sides after each. Assumes nothing.
+use Prim.Native.Nat.{ℕ, ◌+◌, ◌-◌, ◌≤◌}
+use mathlib.Core.Path.{sym, ap, ◌∙◌}
+use mathlib.Core.Bool.{true}
+use native.Mathlib.Omega.{arith}
+use lib.ListN.{length, drop, length-take}
+use Rattle.prepare.specs.Threshold.{span, thresholded}
+use Rattle.prepare.specs.declared.averages.Ends.{Ends}
+use Rattle.prepare.proofs.Rows.{Onward, onward_starts, onward_goes_on, onward_ends, row_within, turned, rows_turned}
+use Rattle.prepare.proofs.threshold.threshold.Given as goal
+
+abbrev pub invariant-loop-y : goal.invariant-loop-y
+invariant-loop-y l = Onward l.s l.width l.height l.initial.pic l.pic l.lefts l.rights l.left l.right l.base l.y
+
+abbrev pub decreases-loop-y : goal.decreases-loop-y
+decreases-loop-y l = l.height - l.y

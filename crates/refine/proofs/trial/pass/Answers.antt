@@ -1,0 +1,22 @@
+-- `pass` makes one trial after the other. Assumes nothing.
+use Prim.Native.Nat.{◌-◌, ◌≤◌}
+use native.Mathlib.Numerals.{add-one}
+use native.Mathlib.Omega.{arith}
+use mathlib.Core.Path.{◌≡◌, refl}
+use Rattle.fitness.specs.Fitness.{fitness_of}
+use Rattle.refine.specs.Refine.{meaning, trial, trials}
+use borrow.Author.Rules.{rules}
+use Rattle.refine.proofs.trial.pass.Goals as goal
+
+pub loop-i-init : goal.loop-i-init
+unfolding trials
+loop-i-init c = (omega arith, refl)
+
+pub loop-i-preserved : goal.loop-i-preserved
+unfolding trials
+loop-i-preserved c = (omega arith, rw (c.trial-best.ensures, c.loop-i.invariant.1, add-one))
+
+pub returns : goal.returns
+returns c =
+    let last : c.loop-i.i ≡ 16 = omega arith in
+    rw (← last) c.loop-i.invariant.1

@@ -1,0 +1,16 @@
+-- `pass` makes one trial after the other. Assumes nothing.
+use Prim.Native.Nat.{◌-◌, ◌≤◌}
+use native.Mathlib.Numerals.{add-one}
+use native.Mathlib.Omega.{arith}
+use mathlib.Core.Path.{◌≡◌, refl}
+use Rattle.fitness.specs.Fitness.{fitness_of}
+use Rattle.refine.specs.Refine.{meaning, trial, trials}
+use borrow.Author.Rules.{rules}
+use Rattle.refine.proofs.trial.pass.Given as goal
+
+abbrev pub invariant-loop-i : goal.invariant-loop-i
+invariant-loop-i l =
+    (l.i ≤ 16) × (meaning l.best ≡ trials (fitness_of l.pic l.width l.height l.size) l.steps l.i (meaning l.initial.best))
+
+abbrev pub decreases-loop-i : goal.decreases-loop-i
+decreases-loop-i l = 16 - l.i

@@ -1,0 +1,25 @@
+-- `look_up` refuses what its tests refuse, and else answers as `get_region` does. Assumes nothing.
+use mathlib.Core.Path.{◌≡◌, refl, sym, ap, ◌∙◌}
+use lib.ListN.{length}
+use borrow.Author.Rules.{rules}
+use Rattle.refusals.specs.First.{first, sound}
+use Rattle.picture.specs.Verdict.{judged}
+use Rattle.regions.specs.Tests.{look_tests}
+use Rattle.regions.specs.Lookup.{refuses, answers}
+use Rattle.regions.proofs.Accepted.{lookable}
+use Rattle.regions.proofs.look_up.Goals as goal
+use Rattle.regions.proofs.look_up.Tie as tie
+
+-- in the arm where nothing is refused
+passed : (c : tie.In-Sound) → first (look_tests c.args.pic.now c.args.width c.args.height (length c.args.stack.now) c.args.table c.args.x c.args.y) sound ≡ sound
+passed c = sym c.lookable.ensures ∙ ap judged c.in-Sound.is
+
+pub get_region-requires : goal.get_region-requires
+get_region-requires c = lookable _ _ _ _ _ _ _ (passed c.before.before)
+
+pub returns-in-Refused : goal.returns-in-Refused
+returns-in-Refused c = refuses _ refl (sym c.lookable.ensures ∙ ap judged c.in-Refused.is) refl refl
+
+pub returns-in-Sound : goal.returns-in-Sound
+returns-in-Sound c =
+    answers c.get_region.ensures.0 c.get_region.ensures.1 (passed c.before.before.before.before.before.before.before) c.get_region.ensures.2

@@ -1,0 +1,8 @@
+-- `put_refused` puts the word and the number. Assumes nothing.
+use Rattle.report.specs.Lines.{refused_line}
+use borrow.Author.Rules.{rules}
+use Rattle.report.proofs.put_refused.Goals as goal
+
+pub returns : goal.returns
+unfolding refused_line
+returns c = c.count.ensures

@@ -1,0 +1,14 @@
+-- `dark_end` stops at the first pixel of the other shade, or at the end of the line. Assumes nothing.
+use Prim.Native.Nat.{◌-◌, ◌≤◌}
+use native.Mathlib.Omega.{arith}
+use mathlib.Core.Path.{◌≡◌, refl, sym, ◌∙◌}
+use mathlib.Core.Bool.{true}
+use Rattle.scanner.specs.Edges.{run_end}
+use Rattle.scanner.proofs.RunEnds.{is_light, is_dark, goes_on, ends_here, ends_last}
+use Rattle.scanner.proofs.dark_end.Given as goal
+
+abbrev pub invariant-loop-end : goal.invariant-loop-end
+invariant-loop-end l = (run_end true l.pic l.base (l.width - l.x) l.x ≡ run_end true l.pic l.base (l.width - l.end) l.end) × (l.end ≤ l.width)
+
+abbrev pub decreases-loop-end : goal.decreases-loop-end
+decreases-loop-end l = l.width - l.end

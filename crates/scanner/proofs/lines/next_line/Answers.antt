@@ -1,0 +1,31 @@
+-- `next_line` stops at the first line that has a cut, or below the last line. Assumes nothing.
+use Prim.Native.Nat.{◌-◌, ◌≤◌}
+use native.Mathlib.Omega.{arith}
+use mathlib.Core.Path.{◌≡◌, refl, sym, ◌∙◌}
+use Rattle.pieces.proofs.Index.{line_fits}
+use Rattle.scanner.specs.Lines.{next_line}
+use Rattle.scanner.proofs.NextLine.{line_here, line_on, line_last}
+use Rattle.scanner.proofs.lines.next_line.Goals as goal
+
+pub loop-line-init : goal.loop-line-init
+loop-line-init c = (refl, c.requires.0)
+
+pub overflow_mul-line : goal.overflow_mul-line
+overflow_mul-line c =
+    omega (arith, line_fits c.args.width c.args.height c.args.pic.now c.requires.2 c.loop-line.line c.loop-line-test.true)
+
+pub has_cut-requires : goal.has_cut-requires
+has_cut-requires c =
+    (c.requires.1, line_fits c.args.width c.args.height c.args.pic.now c.requires.2 c.loop-line.line c.loop-line-test.true)
+
+pub returns-then-has_cut : goal.returns-then-has_cut
+returns-then-has_cut c =
+    sym (c.loop-line.invariant.0 ∙ line_here _ _ _ c.loop-line.line c.loop-line-test.true (sym c.has_cut.ensures ∙ c.if-has_cut.true))
+
+pub loop-line-preserved : goal.loop-line-preserved
+loop-line-preserved c =
+    (c.loop-line.invariant.0 ∙ line_on _ _ _ c.loop-line.line c.loop-line-test.true (sym c.has_cut.ensures ∙ c.if-has_cut.false), omega arith)
+
+pub returns : goal.returns
+returns c =
+    sym (c.loop-line.invariant.0 ∙ line_last _ _ _ c.loop-line.line c.loop-line-test.false)

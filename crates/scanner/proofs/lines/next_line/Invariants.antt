@@ -1,0 +1,14 @@
+-- `next_line` stops at the first line that has a cut, or below the last line. Assumes nothing.
+use Prim.Native.Nat.{◌-◌, ◌≤◌}
+use native.Mathlib.Omega.{arith}
+use mathlib.Core.Path.{◌≡◌, refl, sym, ◌∙◌}
+use Rattle.pieces.proofs.Index.{line_fits}
+use Rattle.scanner.specs.Lines.{next_line}
+use Rattle.scanner.proofs.NextLine.{line_here, line_on, line_last}
+use Rattle.scanner.proofs.lines.next_line.Given as goal
+
+abbrev pub invariant-loop-line : goal.invariant-loop-line
+invariant-loop-line l = (next_line l.pic l.width (l.height - l.y) l.y ≡ next_line l.pic l.width (l.height - l.line) l.line) × (l.line ≤ l.height)
+
+abbrev pub decreases-loop-line : goal.decreases-loop-line
+decreases-loop-line l = l.height - l.line

@@ -1,0 +1,14 @@
+-- `judge` refuses a point that is not near. Assumes nothing.
+use mathlib.Core.Path.{sym, ◌∙◌}
+use borrow.Author.Rules.{rules}
+use borrow.Author.Tests.{not-true, not-false}
+use Rattle.stated.specs.Stated.{judged}
+use Rattle.stated.proofs.judge.Goals as goal
+
+pub returns-then-not-is_near : goal.returns-then-not-is_near
+unfolding judged
+returns-then-not-is_near c = rw (sym c.is_near.ensures ∙ not-true _ c.if-not-is_near.true)
+
+pub returns : goal.returns
+unfolding judged
+returns c = rw (sym c.is_near.ensures ∙ not-false _ c.if-not-is_near.false)

@@ -1,0 +1,8 @@
+-- `empty` makes the one empty table. Assumes nothing.
+use mathlib.Core.Path.{refl}
+use Rattle.table.specs.Table.{empty_table}
+use Rattle.table.proofs.empty.Goals as goal
+
+pub returns : goal.returns
+unfolding empty_table
+returns c = refl

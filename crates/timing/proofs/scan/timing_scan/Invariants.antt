@@ -1,0 +1,16 @@
+-- `timing_scan` counts point by point, until the scan is done. Assumes nothing.
+use Prim.Native.Nat.{◌+◌, ◌-◌}
+use native.Mathlib.Omega.{arith}
+use mathlib.Core.Path.{◌≡◌, sym, ◌∙◌}
+use Rattle.scans.specs.declared.Stepped.TheVariants.{Seen}
+use Rattle.scans.specs.Scan.{step_of}
+use Rattle.scans.proofs.Steps.{new_good, step_seen}
+use Rattle.timing.proofs.Counting.{Counting, none_counted, one_counted, all_counted}
+use borrow.Author.Rules.{rules}
+use Rattle.timing.proofs.scan.timing_scan.Given as goal
+
+abbrev pub invariant-loop-p : goal.invariant-loop-p
+invariant-loop-p l = Counting l.pic l.width l.height l.initial.previous l.previous l.count l.initial.scan l.scan
+
+abbrev pub decreases-loop-p : goal.decreases-loop-p
+decreases-loop-p l = l.scan.d + 1 - l.scan.i

@@ -1,0 +1,15 @@
+-- `rows` refuses what a claim refuses, and else lists. Assumes nothing.
+use mathlib.Core.Path.{refl, sym, ap, ◌∙◌}
+use Rattle.picture.specs.Verdict.{judged}
+use Rattle.told_claims.specs.Rows.{refuses}
+use Rattle.told.proofs.Tell.{tell_refused}
+use borrow.Author.Rules.{rules}
+use Rattle.told_claims.proofs.rows.rows.Goals as goal
+
+pub put_rows-requires : goal.put_rows-requires
+put_rows-requires c = sym c.judge.ensures ∙ ap judged c.in-Sound.is
+
+pub returns-in-Refused : goal.returns-in-Refused
+returns-in-Refused c =
+    let refused = sym c.judge.ensures ∙ ap judged c.in-Refused.is in
+    rw c.number_of.ensures (refuses _ refused refl (tell_refused _ _) (tell_refused _ _))

@@ -1,0 +1,6 @@
+-- `accept` tells what accept answers. Assumes nothing.
+use borrow.Author.Rules.{rules}
+use Rattle.told_pictures.proofs.accept.Goals as goal
+
+pub returns : goal.returns
+returns c = rw c.accept.ensures at c.verdict_number.ensures

@@ -1,0 +1,28 @@
+-- `put_entries` writes a table's places one after the other. Assumes nothing.
+use Prim.Native.Nat.{◌-◌, ◌≤◌}
+use native.Mathlib.Omega.{arith}
+use mathlib.Core.Path.{◌≡◌, refl, sym, ◌∙◌}
+use lib.ListN.{length}
+use borrow.Author.Rules.{rules}
+use Rattle.told_places.specs.Put.{put_each}
+use Rattle.told_places.specs.Values.{table_numbers}
+use Rattle.told_places.proofs.Places.{each_next, each_last}
+use Rattle.told_places.proofs.entries.put_entries.Goals as goal
+
+pub loop-k-init : goal.loop-k-init
+loop-k-init c = (refl, refl, omega arith)
+
+pub put_entry-requires : goal.put_entry-requires
+put_entry-requires c =
+    omega (arith, c.loop-k-test.true, c.loop-k.invariant.1, c.requires)
+
+pub loop-k-preserved : goal.loop-k-preserved
+loop-k-preserved c =
+    (
+      rw c.put_entry.ensures (sym (each_next _ 4 251 c.loop-k.k c.loop-k.out c.loop-k-test.true) ∙ c.loop-k.invariant.0),
+      omega (arith, c.loop-k.invariant.1, c.put_entry.auto.1.1.1.0),
+      omega (arith, c.loop-k-test.true),
+    )
+
+pub returns : goal.returns
+returns c = sym (each_last _ 4 251 c.loop-k.k c.loop-k.out c.loop-k-test.false) ∙ c.loop-k.invariant.0

@@ -1,0 +1,17 @@
+-- `put_entries` writes a table's places one after the other. Assumes nothing.
+use Prim.Native.Nat.{◌-◌, ◌≤◌}
+use native.Mathlib.Omega.{arith}
+use mathlib.Core.Path.{◌≡◌, refl, sym, ◌∙◌}
+use lib.ListN.{length}
+use borrow.Author.Rules.{rules}
+use Rattle.told_places.specs.Put.{put_each}
+use Rattle.told_places.specs.Values.{table_numbers}
+use Rattle.told_places.proofs.Places.{each_next, each_last}
+use Rattle.told_places.proofs.entries.put_entries.Given as goal
+
+abbrev pub invariant-loop-k : goal.invariant-loop-k
+invariant-loop-k l =
+    (put_each (table_numbers l.table) 4 (251 - l.k) l.k l.out ≡ put_each (table_numbers l.table) 4 251 0 l.initial.out) × (length l.out ≡ length l.initial.out) × (l.k ≤ 251)
+
+abbrev pub decreases-loop-k : goal.decreases-loop-k
+decreases-loop-k l = 251 - l.k

@@ -1,0 +1,18 @@
+-- `put_entry` writes four numbers from a place on. Assumes nothing.
+use native.Mathlib.Omega.{arith}
+use lib.ListN.{length-set}
+use borrow.Author.Rules.{rules}
+use Rattle.told_places.proofs.Places.{put_four}
+use Rattle.told_places.proofs.entries.put_entry.Goals as goal
+
+pub bounds-out-at-2 : goal.bounds-out-at-2
+bounds-out-at-2 c = simp length-set (omega arith)
+
+pub bounds-out-at-3 : goal.bounds-out-at-3
+bounds-out-at-3 c = simp length-set (omega arith)
+
+pub bounds-out-at-4 : goal.bounds-out-at-4
+bounds-out-at-4 c = simp length-set (omega arith)
+
+pub returns : goal.returns
+returns c = put_four _ _ _ _ _ _
