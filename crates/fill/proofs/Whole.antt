@@ -106,11 +106,11 @@ module _ {T : Task} {p : List ℕ} {R : List Row} (G : Underway T p [] R) where
   pub piece_covered : {a b : ℕ} → PieceOf T a b → Covered R a b
   piece_covered (start s) = covered G T.x T.y s.0 s.1 refl (λ z. (G.seed z).1)
   piece_covered (west {a} {b} c s) =
-      covered_along T R G.rows_of_lem (suc a) a b (piece_covered c) s.0
+      covered_along T R G.rows_of (suc a) a b (piece_covered c) s.0
       (λ k u v. absurd (omega arith))
       (λ k u v. ⊎_elim (λ z. ap (λ (j : ℕ). at T j b) z ∙ s.2) (λ z. ap (λ (j : ℕ). at T j b) (omega arith) ∙ (last_of c).2) (same k a))
   piece_covered (east {a} {b} c s) =
-      covered_along T R G.rows_of_lem a (suc a) b (piece_covered c) s.0
+      covered_along T R G.rows_of a (suc a) b (piece_covered c) s.0
       (λ k u v. ⊎_elim (λ z. ap (λ (j : ℕ). at T j b) z ∙ s.2) (λ z. ap (λ (j : ℕ). at T j b) (omega arith) ∙ (last_of c).2) (same k (suc a)))
       (λ k u v. absurd (omega arith))
   piece_covered (north {a} {b} c s) =
@@ -124,17 +124,17 @@ module _ {T : Task} {p : List ℕ} {R : List Row} (G : Underway T p [] R) where
       record {
         len = G.len;
         piece = λ a b c. let i = last_of c in G.done a b i.0 i.1 (piece_covered c);
-        rest = λ a b ha hb n. G.kept a b ha hb (λ q. n (covered_piece T R G.rows_of_lem a b q));
+        rest = λ a b ha hb n. G.kept a b ha hb (λ q. n (covered_piece T R G.rows_of a b q));
       }
 
   -- the rows met are the piece's rows, each once
   pub whole_rows : Lists (RowOf (PieceOf T)) R
   whole_rows = (
     G.once,
-    G.rows_of_lem,
+    G.rows_of,
     (λ r Q.
         let s = covering R r.left r.y (piece_covered (Q.all r.left (omega arith) Q.order)) in
-        let e : r ≡ s.0 = one_row Q (G.rows_of_lem s.0 s.1) r.left r.y (refl, omega arith, Q.order) s.2 in
+        let e : r ≡ s.0 = one_row Q (G.rows_of s.0 s.1) r.left r.y (refl, omega arith, Q.order) s.2 in
         subst (λ (v : Row). Mem v R) (sym e) s.1),
   )
 
@@ -144,8 +144,8 @@ module _ {T : Task} {p : List ℕ} {R : List Row} (G : Underway T p [] R) where
       record {
         list = pixels_in R;
         lists = (
-          pixels_distinct R G.rows_of_lem G.once,
-          (λ a m. covered_piece T R G.rows_of_lem a.col a.line (pixels_covered R G.rows_of_lem a m)),
+          pixels_distinct R G.rows_of G.once,
+          (λ a m. covered_piece T R G.rows_of a.col a.line (pixels_covered R G.rows_of a m)),
           (λ a c. covered_pixels R a.col a.line (piece_covered c)),
         );
         count = pixels_length R;
@@ -175,8 +175,8 @@ module _ {T : Task} {p : List ℕ} {R : List Row} (G : Underway T p [] R) {E : L
   top_piece j m =
       let s = J.sound j m in
       ⊎_elim
-      (λ q. covered_piece T R G.rows_of_lem j.col j.line q)
-      (λ q. north (covered_piece T R G.rows_of_lem j.col (suc j.line) q) (s.0.wide, omega (arith, s.0.deep), s.0.top))
+      (λ q. covered_piece T R G.rows_of j.col j.line q)
+      (λ q. north (covered_piece T R G.rows_of j.col (suc j.line) q) (s.0.wide, omega (arith, s.0.deep), s.0.top))
       s.1
 
   low_piece : (j : Pixel) → Mem j E → PieceOf T j.col (suc j.line)

@@ -7,19 +7,17 @@ use Rattle.picture.specs.Verdict.{judged}
 use Rattle.claim.specs.Tests.{claim_tests}
 use Rattle.claim.proofs.Accepted.{claim_fillable, claims_piece}
 use Rattle.claim.proofs.claim.Goals as goal
-use Rattle.claim.proofs.claim.Tie as tie
-
--- no test applies
-passed : (c : tie.In-Sound) → first (claim_tests c.args.pic.now c.args.width c.args.height (length c.args.stack.now) c.args.x c.args.y c.args.target) sound ≡ sound
-passed c = sym c.judge.ensures ∙ ap judged c.in-Sound.is
 
 pub paint_and_count-requires : goal.paint_and_count-requires
-paint_and_count-requires c = claim_fillable _ _ _ _ _ _ _ (passed c.before.before)
+paint_and_count-requires c =
+    let passed : first (claim_tests c.args.pic.now c.args.width c.args.height (length c.args.stack.now) c.args.x c.args.y c.args.target) sound ≡ sound = sym c.judge.ensures ∙ ap judged c.in-Sound.is in
+    claim_fillable _ _ _ _ _ _ _ (passed)
 
 pub returns-in-Refused : goal.returns-in-Refused
 returns-in-Refused c = (sym c.judge.ensures ∙ ap judged c.in-Refused.is, refl)
 
 pub returns-in-Sound : goal.returns-in-Sound
 returns-in-Sound c =
-    let k = passed c.before.before.before.before.before.before.before in
+    let passed : first (claim_tests c.args.pic.now c.args.width c.args.height (length c.args.stack.now) c.args.x c.args.y c.args.target) sound ≡ sound = sym c.judge.ensures ∙ ap judged c.in-Sound.is in
+    let k = passed in
     (k, claims_piece _ _ _ _ _ _ _ k c.paint_and_count.ensures.0 c.paint_and_count.ensures.1)

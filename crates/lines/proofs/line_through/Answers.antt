@@ -13,70 +13,53 @@ use Rattle.sizes.proofs.Size.{products, size_neg, read_back}
 use Rattle.lines.specs.Meet.{line_of}
 use Rattle.lines.proofs.Bounds.{inside_low, diff_low}
 use Rattle.lines.proofs.line_through.Goals as goal
-use Rattle.lines.proofs.line_through.Tie as tie
-
--- each coordinate as it is read
-module _ (s : tie.Start) where
-  px : to_z w32 (of_z w32 s.args.p.x) ≡ s.args.p.x
-  px = search rules
-
-  py : to_z w32 (of_z w32 s.args.p.y) ≡ s.args.p.y
-  py = search rules
-
-  qx : to_z w32 (of_z w32 s.args.q.x) ≡ s.args.q.x
-  qx = search rules
-
-  qy : to_z w32 (of_z w32 s.args.q.y) ≡ s.args.q.y
-  qy = search rules
 
 pub diff-requires : goal.diff-requires
 diff-requires c =
+    let qy : to_z w32 (of_z w32 c.args.q.y) ≡ c.args.q.y = search rules in
+    let py : to_z w32 (of_z w32 c.args.p.y) ≡ c.args.p.y = search rules in
     let h = inside_low _ c.requires.fact_2.y in
     let k = inside_low _ c.requires.fact_1.y in
-    rw (qy c.before.before.before, py c.before.before.before) (omega arith)
-
-module _ (c : tie.After-diff) where
-  abbrev start_y : tie.Start
-  start_y = c.before.before.before
-
-  dy_is : to_z w32 (of_z w32 c.diff.result) ≡ start_y.args.q.y -ℤ start_y.args.p.y
-  dy_is = read_back c.diff.result c.diff.type-inv ∙ rw (qy start_y, py start_y) at c.diff.ensures
-
-  dy_low : nat_abs (start_y.args.q.y -ℤ start_y.args.p.y) ≤ longest_side
-  dy_low = diff_low _ _ start_y.pre.1.y start_y.pre.0.y
+    rw (qy, py) (omega arith)
 
 pub opposite-a-requires : goal.opposite-a-requires
-opposite-a-requires c = rw (dy_is c) (let h = dy_low c in omega arith)
-
-module _ (c : tie.After-opposite) where
-  a_is : to_z w32 (of_z w32 c.opposite.result) ≡ neg_ℤ ((start_y c.before).args.q.y -ℤ (start_y c.before).args.p.y)
-  a_is = read_back c.opposite.result c.opposite.type-inv ∙ rw (dy_is c.before) at c.opposite.ensures
-
-  a_low : nat_abs (neg_ℤ ((start_y c.before).args.q.y -ℤ (start_y c.before).args.p.y)) ≤ longest_side
-  a_low = rw (size_neg ((start_y c.before).args.q.y -ℤ (start_y c.before).args.p.y)) (dy_low c.before)
+opposite-a-requires c =
+    let qy : to_z w32 (of_z w32 c.args.q.y) ≡ c.args.q.y = search rules in
+    let py : to_z w32 (of_z w32 c.args.p.y) ≡ c.args.p.y = search rules in
+    let dy_is : to_z w32 (of_z w32 c.diff.result) ≡ c.args.q.y -ℤ c.args.p.y = read_back c.diff.result c.diff.type_inv ∙ rw (qy, py) at c.diff.ensures in
+    let dy_low : nat_abs (c.args.q.y -ℤ c.args.p.y) ≤ longest_side = diff_low _ _ c.requires.fact_2.y c.requires.fact_1.y in
+    rw (dy_is) (let h = dy_low in omega arith)
 
 pub diff-b-requires : goal.diff-b-requires
 diff-b-requires c =
-    let s = start_y c.before.before in
-    let h = inside_low _ s.pre.1.x in
-    let k = inside_low _ s.pre.0.x in
-    rw (qx s, px s) (omega arith)
-
-module _ (c : tie.After-diff2) where
-  abbrev start_x : tie.Start
-  start_x = start_y c.before.before.before
-
-  b_is : to_z w32 (of_z w32 c.diff2.result) ≡ start_x.args.q.x -ℤ start_x.args.p.x
-  b_is = read_back c.diff2.result c.diff2.type-inv ∙ rw (qx start_x, px start_x) at c.diff2.ensures
+    let qx : to_z w32 (of_z w32 c.args.q.x) ≡ c.args.q.x = search rules in
+    let px : to_z w32 (of_z w32 c.args.p.x) ≡ c.args.p.x = search rules in
+    let h = inside_low _ c.requires.fact_2.x in
+    let k = inside_low _ c.requires.fact_1.x in
+    rw (qx, px) (omega arith)
 
 pub dot-e-requires : goal.dot-e-requires
 dot-e-requires c =
-    let s = start_x c in
-    rw (a_is c.before.before, b_is c, qx s, qy s)
-    (lt_of_le_of_lt (products longest_side longest_side longest_side longest_side (a_low c.before.before) (inside_low _ s.pre.1.x) (diff_low _ _ s.pre.1.x s.pre.0.x) (inside_low _ s.pre.1.y)) (lit< tt))
+    let qy : to_z w32 (of_z w32 c.args.q.y) ≡ c.args.q.y = search rules in
+    let py : to_z w32 (of_z w32 c.args.p.y) ≡ c.args.p.y = search rules in
+    let dy_is : to_z w32 (of_z w32 c.diff.result) ≡ c.args.q.y -ℤ c.args.p.y = read_back c.diff.result c.diff.type_inv ∙ rw (qy, py) at c.diff.ensures in
+    let a_is : to_z w32 (of_z w32 c.opposite-a.result) ≡ neg_ℤ (c.args.q.y -ℤ c.args.p.y) = read_back c.opposite-a.result c.opposite-a.type_inv ∙ rw (dy_is) at c.opposite-a.ensures in
+    let qx : to_z w32 (of_z w32 c.args.q.x) ≡ c.args.q.x = search rules in
+    let px : to_z w32 (of_z w32 c.args.p.x) ≡ c.args.p.x = search rules in
+    let b_is : to_z w32 (of_z w32 c.diff-b.result) ≡ c.args.q.x -ℤ c.args.p.x = read_back c.diff-b.result c.diff-b.type_inv ∙ rw (qx, px) at c.diff-b.ensures in
+    let dy_low : nat_abs (c.args.q.y -ℤ c.args.p.y) ≤ longest_side = diff_low _ _ c.requires.fact_2.y c.requires.fact_1.y in
+    let a_low : nat_abs (neg_ℤ (c.args.q.y -ℤ c.args.p.y)) ≤ longest_side = rw (size_neg (c.args.q.y -ℤ c.args.p.y)) (dy_low) in
+    rw (a_is, b_is, qx, qy)
+    (lt_of_le_of_lt (products longest_side longest_side longest_side longest_side (a_low) (inside_low _ c.requires.fact_2.x) (diff_low _ _ c.requires.fact_2.x c.requires.fact_1.x) (inside_low _ c.requires.fact_2.y)) (lit< tt))
 
 pub returns : goal.returns
 unfolding line_of
 returns c =
-    let s = start_x c.before in
-    rw (a_is c.before.before.before, b_is c.before, read_back c.dot-e.result c.dot-e.type_inv, c.dot-e.ensures, a_is c.before.before.before, b_is c.before, qx s, qy s)
+    let qy : to_z w32 (of_z w32 c.args.q.y) ≡ c.args.q.y = search rules in
+    let py : to_z w32 (of_z w32 c.args.p.y) ≡ c.args.p.y = search rules in
+    let dy_is : to_z w32 (of_z w32 c.diff.result) ≡ c.args.q.y -ℤ c.args.p.y = read_back c.diff.result c.diff.type_inv ∙ rw (qy, py) at c.diff.ensures in
+    let a_is : to_z w32 (of_z w32 c.opposite-a.result) ≡ neg_ℤ (c.args.q.y -ℤ c.args.p.y) = read_back c.opposite-a.result c.opposite-a.type_inv ∙ rw (dy_is) at c.opposite-a.ensures in
+    let qx : to_z w32 (of_z w32 c.args.q.x) ≡ c.args.q.x = search rules in
+    let px : to_z w32 (of_z w32 c.args.p.x) ≡ c.args.p.x = search rules in
+    let b_is : to_z w32 (of_z w32 c.diff-b.result) ≡ c.args.q.x -ℤ c.args.p.x = read_back c.diff-b.result c.diff-b.type_inv ∙ rw (qx, px) at c.diff-b.ensures in
+    rw (a_is, b_is, read_back c.dot-e.result c.dot-e.type_inv, c.dot-e.ensures, a_is, b_is, qx, qy)

@@ -6,13 +6,13 @@ use mir.Val.{SFits}
 use mir.Facts.{to_z-of_z}
 use Rattle.sizes.proofs.Size.{size_quot, fits_size, bits_size}
 use Rattle.lines.proofs.over.Goals as goal
-use Rattle.lines.proofs.over.Tie as tie
-
-fits : (c : tie.Start) → SFits w32 (quot_z c.args.n c.args.d)
-fits c = let h = size_quot c.args.n c.args.d in fits_size (omega arith)
 
 pub nonzero_div-result : goal.nonzero_div-result
-nonzero_div-result c = (bits_size c.ranges.d c.requires.1, rw (to_z-of_z c.ranges.n, to_z-of_z c.ranges.d) (fits c))
+nonzero_div-result c =
+    let fits : SFits w32 (quot_z c.args.n c.args.d) = let h = size_quot c.args.n c.args.d in fits_size (omega arith) in
+    (bits_size c.ranges.d c.requires.1, rw (to_z-of_z c.ranges.n, to_z-of_z c.ranges.d) (fits))
 
 pub returns : goal.returns
-returns c = rw (to_z-of_z c.ranges.n, to_z-of_z c.ranges.d) (to_z-of_z (fits c))
+returns c =
+    let fits : SFits w32 (quot_z c.args.n c.args.d) = let h = size_quot c.args.n c.args.d in fits_size (omega arith) in
+    rw (to_z-of_z c.ranges.n, to_z-of_z c.ranges.d) (to_z-of_z (fits))

@@ -8,14 +8,10 @@ use Rattle.detect.specs.Telling.{tells}
 use Rattle.report.proofs.Putting.{puts_then, puts_within}
 use Rattle.listing.specs.Listing.{listing}
 use Rattle.listing.proofs.put_found.Goals as goal
-use Rattle.listing.proofs.put_found.Tie as tie
-
--- the array's length, by its type
-long : (s : tie.Start) → length s.args.grids ≡ 31
-long s = search rules
 
 pub returns : goal.returns
 unfolding listing tells
 returns c =
-    let count : length (take c.args.n c.args.grids) ≡ c.args.n = length-take-le c.args.n c.args.grids (omega (arith, long c.before.before.before.before.before.before.before.before.before, c.requires.0)) in
+    let long : length c.args.grids ≡ 31 = search rules in
+    let count : length (take c.args.n c.args.grids) ≡ c.args.n = length-take-le c.args.n c.args.grids (omega (arith, long, c.requires.0)) in
     rw count (puts_within 7374 (omega (arith, c.requires.0)) (puts_then c.put_counts-after.ensures c.put_grids.ensures))

@@ -8,11 +8,6 @@ use Rattle.report.specs.Puts.{Puts}
 use Rattle.listing.specs.Listing.{grid_lines}
 use Rattle.listing.proofs.Lines.{no_lines, lines_next}
 use Rattle.listing.proofs.put_grids.Goals as goal
-use Rattle.listing.proofs.put_grids.Tie as tie
-
--- the array's length, by its type
-long : (s : tie.Start invariant-loop decreases-loop) → length s.args.t1 ≡ 31
-long s = search rules
 
 pub loop-k-init : goal.loop-k-init
 loop-k-init c = (no_lines, omega arith, refl)
@@ -23,7 +18,8 @@ put_grid-next-requires c =
 
 pub loop-k-preserved : goal.loop-k-preserved
 loop-k-preserved c =
-    (lines_next c.args.t1 c.loop-k.k _ (omega (arith, c.loop-k-test.true, long c.before.before.before.before.before.before.before.before.before, c.requires.0)) c.loop-k.invariant.0 (rw c.line_of.ensures at c.put_grid-next.ensures), omega arith, omega (arith, c.loop-k.invariant.2, c.put_grid-next.auto.1.0))
+    let long : length c.args.t1 ≡ 31 = search rules in
+    (lines_next c.args.t1 c.loop-k.k _ (omega (arith, c.loop-k-test.true, long, c.requires.0)) c.loop-k.invariant.0 (rw c.line_of.ensures at c.put_grid-next.ensures), omega arith, omega (arith, c.loop-k.invariant.2, c.put_grid-next.auto.1.0))
 
 pub returns : goal.returns
 returns c =

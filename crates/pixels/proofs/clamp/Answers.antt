@@ -11,32 +11,30 @@ use Rattle.sizes.proofs.Size.{from_zero, size_fits}
 use Rattle.pixels.specs.Nearest.{clamped}
 use Rattle.pixels.proofs.Clamped.{below, on_side, beyond}
 use Rattle.pixels.proofs.clamp.Goals as goal
-use Rattle.pixels.proofs.clamp.Tie as tie
-
--- what is not below 0 is its own size
-is_size : (c : tie.Else-z-lt0) → c.args.z ≡ pos (nat_abs c.args.z)
-is_size c = from_zero _ (rw (to_z-of_z c.ranges.z) at c.if-z-lt0.false)
-
-read : (c : tie.Else-z-lt0) → to_z w32 (of_z w32 c.args.z) ≡ pos (nat_abs c.args.z)
-read c = to_z-of_z c.ranges.z ∙ is_size c
-
-size : (c : tie.Else-z-lt0) → nat_abs (to_z w32 (of_z w32 c.args.z)) ≡ nat_abs c.args.z
-size c = ap nat_abs (read c)
 
 pub returns-then-z-lt0 : goal.returns-then-z-lt0
 returns-then-z-lt0 c = (sym (below _ _ (rw (to_z-of_z c.ranges.z) at c.if-z-lt0.true)), c.requires.0)
 
 pub overflow_cast-n : goal.overflow_cast-n
-overflow_cast-n c = let few = size_fits c.ranges.z in rw (read c) (tt, record { fits = omega arith })
+overflow_cast-n c =
+    let is_size : c.args.z ≡ pos (nat_abs c.args.z) = from_zero _ (rw (to_z-of_z c.ranges.z) at c.if-z-lt0.false) in
+    let read : to_z w32 (of_z w32 c.args.z) ≡ pos (nat_abs c.args.z) = to_z-of_z c.ranges.z ∙ is_size in
+    let few = size_fits c.ranges.z in rw (read) (tt, record { fits = omega arith })
 
 pub returns-then-n-side : goal.returns-then-n-side
 returns-then-n-side c =
-    let e = size c.before in
+    let is_size : c.args.z ≡ pos (nat_abs c.args.z) = from_zero _ (rw (to_z-of_z c.ranges.z) at c.if-z-lt0.false) in
+    let read : to_z w32 (of_z w32 c.args.z) ≡ pos (nat_abs c.args.z) = to_z-of_z c.ranges.z ∙ is_size in
+    let size : nat_abs (to_z w32 (of_z w32 c.args.z)) ≡ nat_abs c.args.z = ap nat_abs (read) in
+    let e = size in
     let low : nat_abs c.args.z < c.args.side = omega arith in
-    (e ∙ sym (ap (clamped c.args.side) (is_size c.before) ∙ on_side _ _ low), omega arith)
+    (e ∙ sym (ap (clamped c.args.side) (is_size) ∙ on_side _ _ low), omega arith)
 
 pub returns : goal.returns
 returns c =
-    let e = size c.before in
+    let is_size : c.args.z ≡ pos (nat_abs c.args.z) = from_zero _ (rw (to_z-of_z c.ranges.z) at c.if-z-lt0.false) in
+    let read : to_z w32 (of_z w32 c.args.z) ≡ pos (nat_abs c.args.z) = to_z-of_z c.ranges.z ∙ is_size in
+    let size : nat_abs (to_z w32 (of_z w32 c.args.z)) ≡ nat_abs c.args.z = ap nat_abs (read) in
+    let e = size in
     let high : c.args.side ≤ nat_abs c.args.z = omega arith in
-    (sym (ap (clamped c.args.side) (is_size c.before) ∙ beyond _ _ high), omega arith)
+    (sym (ap (clamped c.args.side) (is_size) ∙ beyond _ _ high), omega arith)

@@ -9,21 +9,21 @@ use borrow.Author.Rules.{rules}
 use Rattle.pieces.proofs.Index.{in_picture}
 use Rattle.pixels.specs.Nearest.{shown_at}
 use Rattle.pixels.proofs.get_pixel_at_point.Goals as goal
-use Rattle.pixels.proofs.get_pixel_at_point.Tie as tie
-
--- the pixel stands in the picture
-stands : (c : tie.After-clamp-y) → c.clamp-y.result * c.args.width + c.clamp-x.result < length c.args.pic.now
-stands c =
-    in_picture c.args.width c.args.height c.args.pic.now c.requires.whole _ _ c.clamp-x.ensures.1 c.clamp-y.ensures.1
 
 pub overflow_mul-result : goal.overflow_mul-result
-overflow_mul-result c = omega (arith, stands c)
+overflow_mul-result c =
+    let stands : c.clamp-y.result * c.args.width + c.clamp-x.result < length c.args.pic.now = in_picture c.args.width c.args.height c.args.pic.now c.requires.whole _ _ c.clamp-x.ensures.1 c.clamp-y.ensures.1 in
+    omega (arith, stands)
 
 pub overflow_add-result : goal.overflow_add-result
-overflow_add-result c = omega (arith, stands c)
+overflow_add-result c =
+    let stands : c.clamp-y.result * c.args.width + c.clamp-x.result < length c.args.pic.now = in_picture c.args.width c.args.height c.args.pic.now c.requires.whole _ _ c.clamp-x.ensures.1 c.clamp-y.ensures.1 in
+    omega (arith, stands)
 
 pub bounds-pic-y : goal.bounds-pic-y
-bounds-pic-y c = stands c.before
+bounds-pic-y c =
+    let stands : c.clamp-y.result * c.args.width + c.clamp-x.result < length c.args.pic.now = in_picture c.args.width c.args.height c.args.pic.now c.requires.whole _ _ c.clamp-x.ensures.1 c.clamp-y.ensures.1 in
+    stands
 
 pub returns : goal.returns
 unfolding shown_at

@@ -8,14 +8,14 @@ use Rattle.placed.proofs.are_near.Goals as goal
 
 pub returns-then-not-is_within : goal.returns-then-not-is_within
 unfolding near of_bits
-returns-then-not-is_within c = rw (sym c.is_within.ensures ∙ not-true _ c.if-not-is_within.true)
+returns-then-not-is_within c = rw (sym c.is_within.ensures ∙ c.if-not-is_within.true)
 
 pub returns-then-not-is_within-2 : goal.returns-then-not-is_within-2
 unfolding near of_bits
 returns-then-not-is_within-2 c =
-    rw (sym c.is_within.ensures ∙ not-false _ c.if-not-is_within.false, sym c.is_within-2.ensures ∙ not-true _ c.if-not-is_within-2.true)
+    rw (sym c.is_within.ensures ∙ c.if-not-is_within.false, sym c.is_within-2.ensures ∙ c.if-not-is_within-2.true)
 
 pub returns : goal.returns
 unfolding near of_bits
 returns c =
-    rw (sym c.is_within.ensures ∙ not-false _ c.if-not-is_within.false, sym c.is_within-2.ensures ∙ not-false _ c.if-not-is_within-2.false) c.is_within-3.ensures
+    rw (sym c.is_within.ensures ∙ c.if-not-is_within.false, sym c.is_within-2.ensures ∙ c.if-not-is_within-2.false) c.is_within-3.ensures

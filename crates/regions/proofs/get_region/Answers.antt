@@ -10,11 +10,6 @@ use Rattle.regions.specs.Lookup.{at_claimed}
 use Rattle.regions.proofs.Asks.{seed_place}
 use Rattle.regions.proofs.Numbering.{choosable, chosen_low, chosen_place, enterable, numbered_looks}
 use Rattle.regions.proofs.get_region.Goals as goal
-use Rattle.regions.proofs.get_region.Tie as tie
-
--- the age order's length
-whole : (s : tie.Start) → length s.args.table.age ≡ 251
-whole s = search rules
 
 pub overflow_mul-byte : goal.overflow_mul-byte
 overflow_mul-byte c = omega (arith, seed_place c.requires)
@@ -32,34 +27,51 @@ returns-then-is_claimed c =
 
 pub chosen-choice-requires : goal.chosen-choice-requires
 chosen-choice-requires c =
-    choosable c.requires (whole c.before.before.before.before.before.before.before) (c.is_claimed.ensures.1 c.if-is_claimed.false)
-
--- once a number is chosen
-low : (c : tie.After-chosen-choice) → c.chosen-choice.result.number < 251
-low c =
-    let byte : px c.args.pic.now c.args.width c.args.x c.args.y < 256 =
-    omega (arith, c.slice_known-3-1.given (c.args.y * c.args.width + c.args.x)) in
-    chosen_low c.requires (whole c.before.before.before.before.before.before.before.before) c.chosen-choice.ensures byte
+    let whole : length c.args.table.age ≡ 251 = search rules in
+    choosable c.requires (whole) (c.is_claimed.ensures.1 c.if-is_claimed.false)
 
 pub bounds-u-i : goal.bounds-u-i
-bounds-u-i c = low c
+bounds-u-i c =
+    let whole : length c.args.table.age ≡ 251 = search rules in
+    let low : c.chosen-choice.result.number < 251 =
+    let byte : px c.args.pic.now c.args.width c.args.x c.args.y < 256 =
+    omega (arith, c.slice_known-3-1.given (c.args.y * c.args.width + c.args.x)) in
+    chosen_low c.requires (whole) c.chosen-choice.ensures byte
+    in
+    low
 
 pub enter-entry-requires : goal.enter-entry-requires
 enter-entry-requires c =
-    enterable c.requires (whole c.before.before.before.before.before.before.before.before.before.before.before) _ (c.is_claimed.ensures.1 c.if-is_claimed.false) (low c.before.before.before)
+    let whole : length c.args.table.age ≡ 251 = search rules in
+    let low : c.chosen-choice.result.number < 251 =
+    let byte : px c.args.pic.now c.args.width c.args.x c.args.y < 256 =
+    omega (arith, c.slice_known-3-1.given (c.args.y * c.args.width + c.args.x)) in
+    chosen_low c.requires (whole) c.chosen-choice.ensures byte
+    in
+    enterable c.requires (whole) _ (c.is_claimed.ensures.1 c.if-is_claimed.false) (low)
 
 pub bounds-u-i-2 : goal.bounds-u-i-2
-bounds-u-i-2 c = low c.before.before.before.before.before.before.before.before
+bounds-u-i-2 c =
+    let whole : length c.args.table.age ≡ 251 = search rules in
+    let low : c.chosen-choice.result.number < 251 =
+    let byte : px c.args.pic.now c.args.width c.args.x c.args.y < 256 =
+    omega (arith, c.slice_known-3-1.given (c.args.y * c.args.width + c.args.x)) in
+    chosen_low c.requires (whole) c.chosen-choice.ensures byte
+    in
+    low
 
 pub slice_bounds-put_first-end : goal.slice_bounds-put_first-end
 slice_bounds-put_first-end c =
-    let age = whole c.before.before.before.before.before.before.before.before.before.before.before.before.before.before.before.before.before in
+    let whole : length c.args.table.age ≡ 251 = search rules in
+    let age = whole in
     search (rules, age)
 
 pub put_first-requires : goal.put_first-requires
 put_first-requires c =
-    chosen_place c.requires (whole c.before.before.before.before.before.before.before.before.before.before.before.before.before.before.before.before.before) c.chosen-choice.ensures
+    let whole : length c.args.table.age ≡ 251 = search rules in
+    chosen_place c.requires (whole) c.chosen-choice.ensures
 
 pub returns : goal.returns
 returns c =
-    (_, refl, rw c.put_first.ensures (numbered_looks c.requires (whole c.before.before.before.before.before.before.before.before.before.before.before.before.before.before.before.before.before.before.before) c.chosen-choice.ensures c.enter-entry.ensures))
+    let whole : length c.args.table.age ≡ 251 = search rules in
+    (_, refl, rw c.put_first.ensures (numbered_looks c.requires (whole) c.chosen-choice.ensures c.enter-entry.ensures))

@@ -8,18 +8,16 @@ use Rattle.regions.specs.Tests.{look_tests}
 use Rattle.regions.specs.Lookup.{refuses, answers}
 use Rattle.regions.proofs.Accepted.{lookable}
 use Rattle.regions.proofs.look_up.Goals as goal
-use Rattle.regions.proofs.look_up.Tie as tie
-
--- in the arm where nothing is refused
-passed : (c : tie.In-Sound) → first (look_tests c.args.pic.now c.args.width c.args.height (length c.args.stack.now) c.args.table c.args.x c.args.y) sound ≡ sound
-passed c = sym c.lookable.ensures ∙ ap judged c.in-Sound.is
 
 pub get_region-requires : goal.get_region-requires
-get_region-requires c = lookable _ _ _ _ _ _ _ (passed c.before.before)
+get_region-requires c =
+    let passed : first (look_tests c.args.pic.now c.args.width c.args.height (length c.args.stack.now) c.args.table c.args.x c.args.y) sound ≡ sound = sym c.lookable.ensures ∙ ap judged c.in-Sound.is in
+    lookable _ _ _ _ _ _ _ (passed)
 
 pub returns-in-Refused : goal.returns-in-Refused
 returns-in-Refused c = refuses _ refl (sym c.lookable.ensures ∙ ap judged c.in-Refused.is) refl refl
 
 pub returns-in-Sound : goal.returns-in-Sound
 returns-in-Sound c =
-    answers c.get_region.ensures.0 c.get_region.ensures.1 (passed c.before.before.before.before.before.before.before) c.get_region.ensures.2
+    let passed : first (look_tests c.args.pic.now c.args.width c.args.height (length c.args.stack.now) c.args.table c.args.x c.args.y) sound ≡ sound = sym c.lookable.ensures ∙ ap judged c.in-Sound.is in
+    answers c.get_region.ensures.0 c.get_region.ensures.1 (passed) c.get_region.ensures.2

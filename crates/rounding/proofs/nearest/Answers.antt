@@ -9,41 +9,48 @@ use mir.Facts.{to_z-of_z}
 use Rattle.rounding.specs.declared.Whole.TheVariants.{At, Off}
 use Rattle.rounding.proofs.Cases.{Up, up_at, up_off, Down, down_at_lem, down_off, rest_nan, rest_zero}
 use Rattle.rounding.proofs.nearest.Goals as goal
-use Rattle.rounding.proofs.nearest.Tie as tie
-
-ups : (c : tie.Then-x-2) → Up c.args.x
-unfolding of_bits neg
-ups c = up_at c.args.x c.if-x.true c.if-x-2.true
-
-downs : (c : tie.Then-x-4) → Down c.args.x
-unfolding of_bits neg
-downs c = down_at_lem c.args.x c.if-x-3.true c.if-x-4.true
 
 pub half_up-requires : goal.half_up-requires
-half_up-requires c = record { fact_1 = (ups c).low; fact_2 = (ups c).high }
+unfolding neg of_bits
+half_up-requires c =
+    let ups : Up c.args.x = up_at c.args.x c.if-x.true c.if-x-2.true in
+    record { fact_1 = (ups).low; fact_2 = (ups).high }
 
 pub plus-requires : goal.plus-requires
-plus-requires c = rw c.half_up.ensures (ups c.before).small
+unfolding neg of_bits
+plus-requires c =
+    let ups : Up c.args.x = up_at c.args.x c.if-x.true c.if-x-2.true in
+    rw c.half_up.ensures (ups).small
 
 pub returns-then-x-2 : goal.returns-then-x-2
+unfolding neg of_bits
 returns-then-x-2 c =
+    let ups : Up c.args.x = up_at c.args.x c.if-x.true c.if-x-2.true in
     ap At (to_z-of_z (record { sfits = c.plus.type_inv }) ∙ c.plus.ensures ∙ ap pos c.half_up.ensures)
-    ∙ sym (ups c.before.before).at
+    ∙ sym (ups).at
 
 pub returns-then-x : goal.returns-then-x
 unfolding of_bits neg
 returns-then-x c = sym (up_off _ c.if-x.true c.if-x-2.false)
 
 pub half_up-requires-then-x-4 : goal.half_up-requires-then-x-4
-half_up-requires-then-x-4 c = record { fact_1 = (downs c).low; fact_2 = (downs c).high }
+unfolding neg of_bits
+half_up-requires-then-x-4 c =
+    let downs : Down c.args.x = down_at_lem c.args.x c.if-x-3.true c.if-x-4.true in
+    record { fact_1 = (downs).low; fact_2 = (downs).high }
 
 pub minus-requires : goal.minus-requires
-minus-requires c = rw c.half_up-then-x-4.ensures (downs c.before).small
+unfolding neg of_bits
+minus-requires c =
+    let downs : Down c.args.x = down_at_lem c.args.x c.if-x-3.true c.if-x-4.true in
+    rw c.half_up-then-x-4.ensures (downs).small
 
 pub returns-then-x-4 : goal.returns-then-x-4
+unfolding neg of_bits
 returns-then-x-4 c =
+    let downs : Down c.args.x = down_at_lem c.args.x c.if-x-3.true c.if-x-4.true in
     ap At (to_z-of_z (record { sfits = c.minus.type_inv }) ∙ c.minus.ensures ∙ ap (λ (n : ℕ). neg_ℤ (pos n)) c.half_up-then-x-4.ensures)
-    ∙ sym (downs c.before.before).at
+    ∙ sym (downs).at
 
 pub returns-then-x-3 : goal.returns-then-x-3
 unfolding of_bits neg

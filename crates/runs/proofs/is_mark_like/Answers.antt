@@ -17,7 +17,7 @@ is_near-requires c = (omega arith, omega arith)
 pub returns-then-not-is_near : goal.returns-then-not-is_near
 unfolding mark_like
 returns-then-not-is_near c =
-    let off = sym c.is_near.ensures ∙ not-true _ c.if-not-is_near.true in
+    let off = sym c.is_near.ensures ∙ c.if-not-is_near.true in
     sym (rw (← c.average_of-avg.ensures.0) (one_off _ _ 2 5 off (omega arith)))
 
 pub loop-i-init : goal.loop-i-init
@@ -33,12 +33,12 @@ is_near-requires-in-loop-i c = let s = share_of c.loop-i.i c.average_of-avg.resu
 pub returns-then-not-is_near-2 : goal.returns-then-not-is_near-2
 unfolding mark_like
 returns-then-not-is_near-2 c =
-    let off = sym c.is_near-in-loop-i.ensures ∙ not-true _ c.if-not-is_near-2.true in
+    let off = sym c.is_near-in-loop-i.ensures ∙ c.if-not-is_near-2.true in
     sym (rw (← c.average_of-avg.ensures.0) (one_off _ _ c.loop-i.i 5 off (omega arith)))
 
 pub loop-i-preserved : goal.loop-i-preserved
 loop-i-preserved c =
-    let on = sym c.is_near-in-loop-i.ensures ∙ not-false _ c.if-not-is_near-2.false in
+    let on = sym c.is_near-in-loop-i.ensures ∙ c.if-not-is_near-2.false in
     (omega arith, one_more _ _ c.loop-i.i on c.loop-i.invariant.1)
 
 pub returns : goal.returns

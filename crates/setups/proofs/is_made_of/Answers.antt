@@ -24,8 +24,8 @@ pub returns : goal.returns
 returns c =
     record {
       size = c.if-s-size.false;
-      p0 = c.is_same.ensures (not-false _ c.if-not-is_same.false);
-      p1 = c.is_same-2.ensures (not-false _ c.if-not-is_same-2.false);
-      p2 = c.is_same-3.ensures (not-false _ c.if-not-is_same-3.false);
-      p3 = c.is_same-4.ensures (not-false _ c.if-not-is_same-4.false);
+      p0 = c.is_same.ensures (c.if-not-is_same.false);
+      p1 = c.is_same-2.ensures (c.if-not-is_same-2.false);
+      p2 = c.is_same-3.ensures (c.if-not-is_same-3.false);
+      p3 = c.is_same-4.ensures (c.if-not-is_same-4.false);
     }

@@ -11,12 +11,12 @@ pub returns-then-not-is_within : goal.returns-then-not-is_within
 unfolding near
 returns-then-not-is_within c =
     let same : to_z w32 (of_z w32 c.args.p.x) ≡ c.args.p.x = search rules in
-    rw (rw same at (sym c.is_within.ensures ∙ not-true _ c.if-not-is_within.true))
+    rw (rw same at (sym c.is_within.ensures ∙ c.if-not-is_within.true))
 
 pub returns : goal.returns
 unfolding near
 returns c =
     let same_x : to_z w32 (of_z w32 c.args.p.x) ≡ c.args.p.x = search rules in
     let same_y : to_z w32 (of_z w32 c.args.p.y) ≡ c.args.p.y = search rules in
-    let x-is = rw same_x at (sym c.is_within.ensures ∙ not-false _ c.if-not-is_within.false) in
+    let x-is = rw same_x at (sym c.is_within.ensures ∙ c.if-not-is_within.false) in
     rw x-is (rw same_y at c.is_within-2.ensures)

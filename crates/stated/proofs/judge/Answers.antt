@@ -7,8 +7,8 @@ use Rattle.stated.proofs.judge.Goals as goal
 
 pub returns-then-not-is_near : goal.returns-then-not-is_near
 unfolding judged
-returns-then-not-is_near c = rw (sym c.is_near.ensures ∙ not-true _ c.if-not-is_near.true)
+returns-then-not-is_near c = rw (sym c.is_near.ensures ∙ c.if-not-is_near.true)
 
 pub returns : goal.returns
 unfolding judged
-returns c = rw (sym c.is_near.ensures ∙ not-false _ c.if-not-is_near.false)
+returns c = rw (sym c.is_near.ensures ∙ c.if-not-is_near.false)

@@ -10,19 +10,17 @@ use Rattle.corners.proofs.Small.{way_direction}
 use Rattle.groups.specs.Side.{side_of}
 use Rattle.alignment.proofs.Areas.{area_is, area_low}
 use Rattle.alignment.proofs.estimate.area.Goals as goal
-use Rattle.alignment.proofs.estimate.area.Tie as tie
 
 pub side_of-requires : goal.side_of-requires
 side_of-requires c =
     record { fact_1 = c.requires.fact_1; fact_2 = subst Direction (sym c.line_from-way.ensures) (way_direction c.requires.fact_1 c.requires.fact_3); fact_3 = search rules }
 
--- the side, as the code reads it
-side : (c : tie.After-side_of) → to_z w32 (of_z w32 c.side_of.result) ≡ side_of c.args.seed (line_from c.args.seed c.args.c) c.args.a
-side c =
-    read_back c.side_of.result c.side_of.type_inv ∙ c.side_of.ensures ∙ ap (λ d. side_of c.args.seed d c.args.a) c.line_from-way.ensures
-
 pub unsigned_abs-requires : goal.unsigned_abs-requires
-unsigned_abs-requires c = rw (side c) (area_low _ _ _ c.requires.fact_1 c.requires.fact_2 c.requires.fact_3)
+unsigned_abs-requires c =
+    let side : to_z w32 (of_z w32 c.side_of.result) ≡ side_of c.args.seed (line_from c.args.seed c.args.c) c.args.a = read_back c.side_of.result c.side_of.type_inv ∙ c.side_of.ensures ∙ ap (λ d. side_of c.args.seed d c.args.a) c.line_from-way.ensures in
+    rw (side) (area_low _ _ _ c.requires.fact_1 c.requires.fact_2 c.requires.fact_3)
 
 pub returns : goal.returns
-returns c = c.unsigned_abs.ensures ∙ ap nat_abs (side c.before) ∙ area_is _ _ _
+returns c =
+    let side : to_z w32 (of_z w32 c.side_of.result) ≡ side_of c.args.seed (line_from c.args.seed c.args.c) c.args.a = read_back c.side_of.result c.side_of.type_inv ∙ c.side_of.ensures ∙ ap (λ d. side_of c.args.seed d c.args.a) c.line_from-way.ensures in
+    c.unsigned_abs.ensures ∙ ap nat_abs (side) ∙ area_is _ _ _

@@ -7,43 +7,35 @@ use Rattle.stated.proofs.Reach.{stated_near}
 use Rattle.alignment.specs.Estimate.{estimate_between, corner_down, corner_right, estimate_of}
 use borrow.Author.Rules.{rules}
 use Rattle.alignment.proofs.estimate.size_estimate.Goals as goal
-use Rattle.alignment.proofs.estimate.size_estimate.Tie as tie
-
--- both corners, as they are stated
-module _ (c : tie.After-state2) where
-  abbrev start : tie.Start
-  start = c.before.before.before.before.before.before
-
-  down : meaning c.before.before.before.state.result ≡ corner_down start.args.c0 start.args.seed
-  unfolding corner_down of_bits
-  down = rw (← c.before.before.before.before.before.unmap.ensures) c.before.before.before.state.ensures
-
-  right : meaning c.state2.result ≡ corner_right start.args.c2 start.args.seed
-  unfolding corner_right of_bits
-  right = rw (← c.before.before.unmap2.ensures) c.state2.ensures
-
--- where a corner lies
-at_down : (c : tie.In-At-2) → let s = start c.before.before in corner_down s.args.c0 s.args.seed ≡ found c.in-At.a
-at_down c = sym (down c.before.before) ∙ ap meaning c.in-At.is
-
-at_right : (c : tie.In-At-beside-2) → let s = start c.before.before.before.before.before in corner_right s.args.c2 s.args.seed ≡ found c.in-At-beside.c
-at_right c = sym (right c.before.before.before.before.before) ∙ ap meaning c.in-At-beside.is
 
 pub estimate_by-requires : goal.estimate_by-requires
-unfolding corner_down corner_right
+unfolding corner_down corner_right of_bits
 estimate_by-requires c =
-    record { fact_1 = (start c.before.before.before.before.before.before).pre; fact_2 = (stated_near _ _ (at_down c.before.before.before.before)).1; fact_3 = (stated_near _ _ (at_right c.before)).1 }
+    let down : meaning c.state-below.result ≡ corner_down c.args.c0 c.args.seed = rw (← c.unmap-p.ensures) c.state-below.ensures in
+    let at_down : corner_down c.args.c0 c.args.seed ≡ found c.in-At.a = sym (down) ∙ ap meaning c.in-At.is in
+    let right : meaning c.state-beside.result ≡ corner_right c.args.c2 c.args.seed = rw (← c.unmap-q.ensures) c.state-beside.ensures in
+    let at_right : corner_right c.args.c2 c.args.seed ≡ found c.in-At-beside.c = sym (right) ∙ ap meaning c.in-At-beside.is in
+    record { fact_1 = c.requires; fact_2 = (stated_near _ _ (at_down)).1; fact_3 = (stated_near _ _ (at_right)).1 }
 
 pub returns-in-Refused : goal.returns-in-Refused
-unfolding estimate_of estimate_between
-returns-in-Refused c = rw (sym (down c.before.before.before) ∙ ap meaning c.in-Refused.is)
+unfolding estimate_of estimate_between corner_down of_bits
+returns-in-Refused c =
+    let down : meaning c.state-below.result ≡ corner_down c.args.c0 c.args.seed = rw (← c.unmap-p.ensures) c.state-below.ensures in
+    rw (sym (down) ∙ ap meaning c.in-Refused.is)
 
 pub returns-in-Refused-beside : goal.returns-in-Refused-beside
-unfolding estimate_of estimate_between
+unfolding estimate_of estimate_between corner_down corner_right of_bits
 returns-in-Refused-beside c =
-    rw (at_down c.before.before.before.before, sym (right c.before.before.before.before.before.before) ∙ ap meaning c.in-Refused-beside.is)
+    let down : meaning c.state-below.result ≡ corner_down c.args.c0 c.args.seed = rw (← c.unmap-p.ensures) c.state-below.ensures in
+    let at_down : corner_down c.args.c0 c.args.seed ≡ found c.in-At.a = sym (down) ∙ ap meaning c.in-At.is in
+    let right : meaning c.state-beside.result ≡ corner_right c.args.c2 c.args.seed = rw (← c.unmap-q.ensures) c.state-beside.ensures in
+    rw (at_down, sym (right) ∙ ap meaning c.in-Refused-beside.is)
 
 pub returns-in-At-beside : goal.returns-in-At-beside
-unfolding estimate_of estimate_between
+unfolding estimate_of estimate_between corner_down corner_right of_bits
 returns-in-At-beside c =
-    rw (at_down c.before.before.before.before.before, at_right c.before.before) c.estimate_by.ensures
+    let down : meaning c.state-below.result ≡ corner_down c.args.c0 c.args.seed = rw (← c.unmap-p.ensures) c.state-below.ensures in
+    let at_down : corner_down c.args.c0 c.args.seed ≡ found c.in-At.a = sym (down) ∙ ap meaning c.in-At.is in
+    let right : meaning c.state-beside.result ≡ corner_right c.args.c2 c.args.seed = rw (← c.unmap-q.ensures) c.state-beside.ensures in
+    let at_right : corner_right c.args.c2 c.args.seed ≡ found c.in-At-beside.c = sym (right) ∙ ap meaning c.in-At-beside.is in
+    rw (at_down, at_right) c.estimate_by.ensures

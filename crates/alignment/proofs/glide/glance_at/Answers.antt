@@ -8,24 +8,33 @@ use Rattle.alignment.specs.Visit.{place_at}
 use Rattle.alignment.specs.Glide.{glance_at}
 use Rattle.alignment.proofs.Places.{pixel_in}
 use Rattle.alignment.proofs.glide.glance_at.Goals as goal
-use Rattle.alignment.proofs.glide.glance_at.Tie as tie
-
--- the place that is answered is the point's
-placed : (c : tie.After-place_at) → c.place_at.result ≡ place_at c.args.width c.args.height c.args.at.x c.args.at.y
-placed c =
-    let ex : to_z w32 (of_z w32 c.args.at.x) ≡ c.args.at.x = search rules in
-    let ey : to_z w32 (of_z w32 c.args.at.y) ≡ c.args.at.y = search rules in
-    rw (ex, ey) at c.place_at.ensures
 
 pub glance_pixel-requires : goal.glance_pixel-requires
 glance_pixel-requires c =
-    let i = pixel_in _ _ _ _ _ _ (sym (placed c.before.before.before) ∙ c.in-Pixel.is) in
+    let placed : c.place_at.result ≡ place_at c.args.width c.args.height c.args.at.x c.args.at.y =
+    let ex : to_z w32 (of_z w32 c.args.at.x) ≡ c.args.at.x = search rules in
+    let ey : to_z w32 (of_z w32 c.args.at.y) ≡ c.args.at.y = search rules in
+    rw (ex, ey) at c.place_at.ensures
+    in
+    let i = pixel_in _ _ _ _ _ _ (sym (placed) ∙ c.in-Pixel.is) in
     in_picture c.args.width c.args.height c.args.pic.now c.requires.whole _ _ i.2 i.3
 
 pub returns-in-Pixel : goal.returns-in-Pixel
 unfolding glance_at
-returns-in-Pixel c = rw (← (placed c.before.before.before.before), c.in-Pixel.is) c.glance_pixel.ensures
+returns-in-Pixel c =
+    let placed : c.place_at.result ≡ place_at c.args.width c.args.height c.args.at.x c.args.at.y =
+    let ex : to_z w32 (of_z w32 c.args.at.x) ≡ c.args.at.x = search rules in
+    let ey : to_z w32 (of_z w32 c.args.at.y) ≡ c.args.at.y = search rules in
+    rw (ex, ey) at c.place_at.ensures
+    in
+    rw (← (placed), c.in-Pixel.is) c.glance_pixel.ensures
 
 pub returns-in-Beside : goal.returns-in-Beside
 unfolding glance_at
-returns-in-Beside c = rw (← (placed c.before.before), c.in-Beside.is)
+returns-in-Beside c =
+    let placed : c.place_at.result ≡ place_at c.args.width c.args.height c.args.at.x c.args.at.y =
+    let ex : to_z w32 (of_z w32 c.args.at.x) ≡ c.args.at.x = search rules in
+    let ey : to_z w32 (of_z w32 c.args.at.y) ≡ c.args.at.y = search rules in
+    rw (ex, ey) at c.place_at.ensures
+    in
+    rw (← (placed), c.in-Beside.is)

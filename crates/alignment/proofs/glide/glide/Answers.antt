@@ -16,31 +16,31 @@ pub glance_at-requires : goal.glance_at-requires
 glance_at-requires c = c.requires.0
 
 pub moved-at-requires : goal.moved-at-requires
-moved-at-requires c = let N = (head c.before.before).loop.inv.near in (omega (arith, N.x_low), omega (arith, N.y_low))
+moved-at-requires c = (omega (arith, c.loop-pass.inv.near.x_low), omega (arith, c.loop-pass.inv.near.y_low))
 
 pub next-pass-requires : goal.next-pass-requires
-next-pass-requires c = (head c.before.before.before).loop.inv.turning
+next-pass-requires c = c.loop-pass.inv.turning
 
 pub loop-pass-smaller-in-Moves : goal.loop-pass-smaller-in-Moves
-loop-pass-smaller-in-Moves c = rw c.next-pass.ensures (way_less (head c.before.before.before.before).loop.invariant (test c.before.before.before.before).if1.true)
+loop-pass-smaller-in-Moves c = rw c.next-pass.ensures (way_less c.loop-pass.invariant c.loop-pass-test.true)
 
 pub loop-pass-preserved-in-Moves : goal.loop-pass-preserved-in-Moves
 loop-pass-preserved-in-Moves c =
-    rw (c.next-pass.ensures, c.moved-at.ensures) (way_moves (head c.before.before.before.before).loop.invariant (test c.before.before.before.before).if1.true c.glance_at.ensures c.in-Moves.is)
+    rw (c.next-pass.ensures, c.moved-at.ensures) (way_moves c.loop-pass.invariant c.loop-pass-test.true c.glance_at.ensures c.in-Moves.is)
 
 pub next-pass-requires-in-Stays : goal.next-pass-requires-in-Stays
-next-pass-requires-in-Stays c = (head c.before.before).loop.inv.turning
+next-pass-requires-in-Stays c = c.loop-pass.inv.turning
 
 pub loop-pass-smaller : goal.loop-pass-smaller
-loop-pass-smaller c = rw c.next-pass-in-Stays.ensures (way_less (head c.before.before.before).loop.invariant (test c.before.before.before).if1.true)
+loop-pass-smaller c = rw c.next-pass-in-Stays.ensures (way_less c.loop-pass.invariant c.loop-pass-test.true)
 
 pub loop-pass-preserved : goal.loop-pass-preserved
 loop-pass-preserved c =
-    rw c.next-pass-in-Stays.ensures (way_stays (head c.before.before.before).loop.invariant (test c.before.before.before).if1.true c.glance_at.ensures c.in-Stays.is)
+    rw c.next-pass-in-Stays.ensures (way_stays c.loop-pass.invariant c.loop-pass-test.true c.glance_at.ensures c.in-Stays.is)
 
 pub returns-in-Unsure : goal.returns-in-Unsure
 returns-in-Unsure c =
-    way_unsure (head c.before.before).loop.invariant (test c.before.before).if1.true c.glance_at.ensures c.in-Unsure.is
+    way_unsure c.loop-pass.invariant c.loop-pass-test.true c.glance_at.ensures c.in-Unsure.is
 
 pub returns : goal.returns
 returns c = way_far c.loop-pass.invariant c.loop-pass-test.false

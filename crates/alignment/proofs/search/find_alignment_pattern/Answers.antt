@@ -13,16 +13,11 @@ use Rattle.alignment.proofs.Gliding.{glide_spirals, glide_reaches}
 use Rattle.alignment.proofs.search.find_alignment_pattern.Goals as goal
 use Rattle.alignment.proofs.search.find_alignment_pattern.Tie as tie
 
--- the table as the search is handed it: its age order is whole, and in order
-module _ (s : tie.Start) where
-  age_whole : 251 ≤ length s.args.table.age
-  age_whole = let age : length s.args.table.age ≡ 251 = search rules in omega arith
-
-  ordered : Ordered s.args.table
-  ordered = test_ordered s.args.table _ _ s.pre.1 age_whole
-
 pub passed_by-passed-requires : goal.passed_by-passed-requires
-passed_by-passed-requires c = (ordered c.before.before, c.requires.3)
+passed_by-passed-requires c =
+    let age_whole : 251 ≤ length c.args.table.age = let age : length c.args.table.age ≡ 251 = search rules in omega arith in
+    let ordered : Ordered c.args.table = test_ordered c.args.table _ _ c.requires.1 age_whole in
+    (ordered, c.requires.3)
 
 pub glide-start-requires : goal.glide-start-requires
 glide-start-requires c =
@@ -42,4 +37,6 @@ search_from-requires c =
 
 pub returns : goal.returns
 returns c =
-    glide_spirals (age_whole c.before.before.before.before.before.before.before.before.before.before.before.before.before.before) (ordered c.before.before.before.before.before.before.before.before.before.before.before.before.before.before) (glided c.before.before.before.before.before.before.before.before.before) c.search_from.ensures
+    let age_whole : 251 ≤ length c.args.table.age = let age : length c.args.table.age ≡ 251 = search rules in omega arith in
+    let ordered : Ordered c.args.table = test_ordered c.args.table _ _ c.requires.1 age_whole in
+    glide_spirals (age_whole) (ordered) (glided c.before.before.before.before.before.before.before.before.before) c.search_from.ensures

@@ -8,20 +8,21 @@ use Rattle.pieces.proofs.Index.{in_picture}
 use Rattle.regions.proofs.Accepted.{below}
 use Rattle.alignment.specs.Visit.{white, not_listed, looked}
 use Rattle.alignment.proofs.visit.visit_pixel.Goals as goal
-use Rattle.alignment.proofs.visit.visit_pixel.Tie as tie
-
--- the pixel stands in the picture
-stands : (s : tie.Start) → s.args.y * s.args.width + s.args.x < length s.args.pic.now
-stands s = in_picture s.args.width s.args.height s.args.pic.now s.requires.0.sized.whole _ _ s.requires.2 s.requires.3
 
 pub overflow_mul-base : goal.overflow_mul-base
-overflow_mul-base c = omega (arith, stands c.before.before)
+overflow_mul-base c =
+    let stands : c.args.y * c.args.width + c.args.x < length c.args.pic.now = in_picture c.args.width c.args.height c.args.pic.now c.requires.0.sized.whole _ _ c.requires.2 c.requires.3 in
+    omega (arith, stands)
 
 pub overflow_add-byte : goal.overflow_add-byte
-overflow_add-byte c = omega (arith, stands c.before.before)
+overflow_add-byte c =
+    let stands : c.args.y * c.args.width + c.args.x < length c.args.pic.now = in_picture c.args.width c.args.height c.args.pic.now c.requires.0.sized.whole _ _ c.requires.2 c.requires.3 in
+    omega (arith, stands)
 
 pub bounds-pic-base : goal.bounds-pic-base
-bounds-pic-base c = stands c.before.before.before
+bounds-pic-base c =
+    let stands : c.args.y * c.args.width + c.args.x < length c.args.pic.now = in_picture c.args.width c.args.height c.args.pic.now c.requires.0.sized.whole _ _ c.requires.2 c.requires.3 in
+    stands
 
 pub returns-then-byte-eq0 : goal.returns-then-byte-eq0
 returns-then-byte-eq0 c = white c.if-byte-eq0.true refl refl refl

@@ -6,23 +6,31 @@ use borrow.Author.Rules.{rules}
 use Rattle.alignment.specs.Visit.{place_at, beside, at_pixel}
 use Rattle.alignment.proofs.Places.{pixel_in}
 use Rattle.alignment.proofs.visit.visit_place.Goals as goal
-use Rattle.alignment.proofs.visit.visit_place.Tie as tie
-
--- the place that is answered is the point's
-placed : (c : tie.After-place_at) → c.place_at.result ≡ place_at c.args.width c.args.height c.args.at.x c.args.at.y
-placed c =
-    let ex : to_z w32 (of_z w32 c.args.at.x) ≡ c.args.at.x = search rules in
-    let ey : to_z w32 (of_z w32 c.args.at.y) ≡ c.args.at.y = search rules in
-    rw (ex, ey) at c.place_at.ensures
 
 pub visit_pixel-requires : goal.visit_pixel-requires
 visit_pixel-requires c =
-    let in_picture = pixel_in _ _ _ _ _ _ (sym (placed c.before.before.before.before.before) ∙ c.in-Pixel.is) in
+    let placed : c.place_at.result ≡ place_at c.args.width c.args.height c.args.at.x c.args.at.y =
+    let ex : to_z w32 (of_z w32 c.args.at.x) ≡ c.args.at.x = search rules in
+    let ey : to_z w32 (of_z w32 c.args.at.y) ≡ c.args.at.y = search rules in
+    rw (ex, ey) at c.place_at.ensures
+    in
+    let in_picture = pixel_in _ _ _ _ _ _ (sym (placed) ∙ c.in-Pixel.is) in
     (c.requires.0, c.requires.1, in_picture.2, in_picture.3, c.requires.2)
 
 pub returns-in-Pixel : goal.returns-in-Pixel
 returns-in-Pixel c =
-    at_pixel _ _ (sym (placed c.before.before.before.before.before.before.before.before.before.before) ∙ c.in-Pixel.is) c.visit_pixel.ensures
+    let placed : c.place_at.result ≡ place_at c.args.width c.args.height c.args.at.x c.args.at.y =
+    let ex : to_z w32 (of_z w32 c.args.at.x) ≡ c.args.at.x = search rules in
+    let ey : to_z w32 (of_z w32 c.args.at.y) ≡ c.args.at.y = search rules in
+    rw (ex, ey) at c.place_at.ensures
+    in
+    at_pixel _ _ (sym (placed) ∙ c.in-Pixel.is) c.visit_pixel.ensures
 
 pub returns-in-Beside : goal.returns-in-Beside
-returns-in-Beside c = beside (sym (placed c.before.before) ∙ c.in-Beside.is) refl refl refl
+returns-in-Beside c =
+    let placed : c.place_at.result ≡ place_at c.args.width c.args.height c.args.at.x c.args.at.y =
+    let ex : to_z w32 (of_z w32 c.args.at.x) ≡ c.args.at.x = search rules in
+    let ey : to_z w32 (of_z w32 c.args.at.y) ≡ c.args.at.y = search rules in
+    rw (ex, ey) at c.place_at.ensures
+    in
+    beside (sym (placed) ∙ c.in-Beside.is) refl refl refl

@@ -7,11 +7,6 @@ use borrow.Author.Tests.{not-true, not-false}
 use borrow.Author.Rules.{rules}
 use Rattle.bounded.proofs.Bounding.{AfterGrids, grids_begin, array_end, array_stop, array_next}
 use Rattle.bounded.proofs.all.bound_all.Goals as goal
-use Rattle.bounded.proofs.all.bound_all.Tie as tie
-
--- the array's length, by its type
-long : (s : tie.Start invariant-loop decreases-loop) → length s.args.t1 ≡ 31
-long s = search rules
 
 pub loop-k-init : goal.loop-k-init
 loop-k-init c = (grids_begin c.no_grids-sofar.result c.no_grids-sofar.ensures.0 c.no_grids-sofar.ensures.1, omega arith)
@@ -22,14 +17,17 @@ bound_one-sofar-requires c =
 
 pub returns-then-not-is_sound : goal.returns-then-not-is_sound
 returns-then-not-is_sound c =
-    let stops = sym c.is_sound.ensures ∙ not-true _ c.if-not-is_sound.true in
-    (array_stop c.args.t1 c.args.n (omega (arith, long c.before.before.before.before.before.before.before, c.requires)) c.loop-k.invariant.0 c.loop-k-test.true c.bound_one-sofar.ensures stops, c.bound_one-sofar.ensures.laid)
+    let long : length c.args.t1 ≡ 31 = search rules in
+    let stops = sym c.is_sound.ensures ∙ c.if-not-is_sound.true in
+    (array_stop c.args.t1 c.args.n (omega (arith, long, c.requires)) c.loop-k.invariant.0 c.loop-k-test.true c.bound_one-sofar.ensures stops, c.bound_one-sofar.ensures.laid)
 
 pub loop-k-preserved : goal.loop-k-preserved
 loop-k-preserved c =
-    let goes = sym c.is_sound.ensures ∙ not-false _ c.if-not-is_sound.false in
-    (array_next c.args.t1 c.args.n (omega (arith, long c.before.before.before.before.before.before.before, c.requires)) c.loop-k.invariant.0 c.loop-k-test.true c.bound_one-sofar.ensures goes, omega arith)
+    let long : length c.args.t1 ≡ 31 = search rules in
+    let goes = sym c.is_sound.ensures ∙ c.if-not-is_sound.false in
+    (array_next c.args.t1 c.args.n (omega (arith, long, c.requires)) c.loop-k.invariant.0 c.loop-k-test.true c.bound_one-sofar.ensures goes, omega arith)
 
 pub returns : goal.returns
 returns c =
-    (array_end c.args.t1 c.args.n (omega (arith, long c.before.before.before, c.requires)) c.loop-k.invariant.0 (omega arith), c.loop-k.invariant.0.held.laid)
+    let long : length c.args.t1 ≡ 31 = search rules in
+    (array_end c.args.t1 c.args.n (omega (arith, long, c.requires)) c.loop-k.invariant.0 (omega arith), c.loop-k.invariant.0.held.laid)

@@ -10,7 +10,6 @@ use Rattle.cell_fitness.proofs.Dark.{dark_white, dark_coloured}
 use Rattle.cell_fitness.proofs.Shown.{seen_behind, seen_below, seen_inside}
 use borrow.Author.Rules.{rules}
 use Rattle.cell_fitness.proofs.cell.dark_at.Goals as goal
-use Rattle.cell_fitness.proofs.cell.dark_at.Tie as tie
 
 pub returns-then-x-width : goal.returns-then-x-width
 returns-then-x-width c =
@@ -20,19 +19,20 @@ pub returns-then-y-height : goal.returns-then-y-height
 returns-then-y-height c =
     record { is = c.beside-then-y-height.ensures.is ∙ seen_below _ _ _ _ _ c.if-y-height.true; small = c.beside-then-y-height.ensures.small }
 
--- the pixel stands in the picture
-stands : (c : tie.Else-y-height) → c.args.y * c.args.width + c.args.x < length c.args.pic.now
-stands c =
-    in_picture c.args.width c.args.height c.args.pic.now c.requires.whole _ _ c.if-x-width.false c.if-y-height.false
-
 pub overflow_mul-y : goal.overflow_mul-y
-overflow_mul-y c = omega (arith, stands c)
+overflow_mul-y c =
+    let stands : c.args.y * c.args.width + c.args.x < length c.args.pic.now = in_picture c.args.width c.args.height c.args.pic.now c.requires.whole _ _ c.if-x-width.false c.if-y-height.false in
+    omega (arith, stands)
 
 pub overflow_add-y : goal.overflow_add-y
-overflow_add-y c = omega (arith, stands c)
+overflow_add-y c =
+    let stands : c.args.y * c.args.width + c.args.x < length c.args.pic.now = in_picture c.args.width c.args.height c.args.pic.now c.requires.whole _ _ c.if-x-width.false c.if-y-height.false in
+    omega (arith, stands)
 
 pub bounds-pic-y : goal.bounds-pic-y
-bounds-pic-y c = stands c.before
+bounds-pic-y c =
+    let stands : c.args.y * c.args.width + c.args.x < length c.args.pic.now = in_picture c.args.width c.args.height c.args.pic.now c.requires.whole _ _ c.if-x-width.false c.if-y-height.false in
+    stands
 
 pub returns-then-pic-y-eq0 : goal.returns-then-pic-y-eq0
 unfolding extent

@@ -7,14 +7,11 @@ use mir.Val.{to_z, of_z}
 use mir.Facts.{to_z-of_z}
 use Rattle.sizes.proofs.Size.{from_zero, size_fits}
 use Rattle.cell_fitness.proofs.cell.from_zero.Goals as goal
-use Rattle.cell_fitness.proofs.cell.from_zero.Tie as tie
-
--- it is not below 0: it is its own size
-is : (c : tie.Start) → to_z w32 (of_z w32 c.args.i) ≡ pos (nat_abs c.args.i)
-is c = to_z-of_z c.ranges.i ∙ from_zero _ c.requires
 
 pub overflow_cast-result : goal.overflow_cast-result
-overflow_cast-result c = let few = size_fits c.ranges.i in rw (is c) (tt, record { fits = omega arith })
+overflow_cast-result c =
+    let is : to_z w32 (of_z w32 c.args.i) ≡ pos (nat_abs c.args.i) = to_z-of_z c.ranges.i ∙ from_zero _ c.requires in
+    let few = size_fits c.ranges.i in rw (is) (tt, record { fits = omega arith })
 
 pub returns : goal.returns
 returns c = ap (λ (z : ℤ). pos (nat_abs z)) (to_z-of_z c.ranges.i) ∙ sym (from_zero _ c.requires)

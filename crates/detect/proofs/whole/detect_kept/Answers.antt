@@ -19,7 +19,7 @@ find-done-requires c =
 
 pub returns-then-not-is_sound : goal.returns-then-not-is_sound
 returns-then-not-is_sound c =
-    let n = stops_told c.find-done.result.findings (sym c.is_sound.ensures ∙ not-true _ c.if-not-is_sound.true) in
+    let n = stops_told c.find-done.result.findings (sym c.is_sound.ensures ∙ c.if-not-is_sound.true) in
     let K = finds_keeps (starts_work _ _ _ _ _ c.requires) c.find-done.ensures.0 in
     let back = c.blacken.ensures ∙ paint_off _ _ _ _ _ c.requires K in
     let G = subst (λ (f : Finding Telling). Finds c.args.pic.now c.args.width c.args.height f c.find-done.new.pic c.find-done.result.table) n.1 c.find-done.ensures.0 in
@@ -27,6 +27,6 @@ returns-then-not-is_sound c =
 
 pub returns : goal.returns
 returns c =
-    let is = goes_found c.find-done.result.findings (sym c.is_sound.ensures ∙ not-false _ c.if-not-is_sound.false) in
+    let is = goes_found c.find-done.result.findings (sym c.is_sound.ensures ∙ c.if-not-is_sound.false) in
     let G = subst (λ (f : Finding Telling). Finds c.args.pic.now c.args.width c.args.height f c.find-done.new.pic c.find-done.result.table) is c.find-done.ensures.0 in
     (finds _ G is, c.find-done.ensures.1)

@@ -22,18 +22,16 @@ put_floats-requires c =
     omega (arith, c.loop-k-test.true, c.loop-k.invariant.3, c.requires.fact_2)
 
 pub loop-k-preserved : goal.loop-k-preserved
-loop-k-preserved c =
-    (
-      rw c.put_places.ensures (sym (each_next _ 10 64 c.loop-k.k c.loop-k.places c.loop-k-test.true) ∙ c.loop-k.invariant.0),
-      rw c.put_floats.ensures (sym (each_next _ 8 64 c.loop-k.k c.loop-k.floats c.loop-k-test.true) ∙ c.loop-k.invariant.1),
-      omega (arith, c.loop-k.invariant.2, c.put_places.auto.1.1.0),
-      omega (arith, c.loop-k.invariant.3, c.put_floats.auto.1.1.0),
-      omega (arith, c.loop-k-test.true),
-    )
+loop-k-preserved c = (
+  rw c.put_places.ensures (sym (each_next _ 10 64 c.loop-k.k c.loop-k.places c.loop-k-test.true) ∙ c.loop-k.invariant.0),
+  rw c.put_floats.ensures (sym (each_next _ 8 64 c.loop-k.k c.loop-k.floats c.loop-k-test.true) ∙ c.loop-k.invariant.1),
+  omega (arith, c.loop-k.invariant.2, c.put_places.auto.1.1.0),
+  omega (arith, c.loop-k.invariant.3, c.put_floats.auto.1.1.0),
+  omega (arith, c.loop-k-test.true),
+)
 
 pub returns : goal.returns
-returns c =
-    (
-      sym (each_last _ 10 64 c.loop-k.k c.loop-k.places c.loop-k-test.false) ∙ c.loop-k.invariant.0,
-      sym (each_last _ 8 64 c.loop-k.k c.loop-k.floats c.loop-k-test.false) ∙ c.loop-k.invariant.1,
-    )
+returns c = (
+  sym (each_last _ 10 64 c.loop-k.k c.loop-k.places c.loop-k-test.false) ∙ c.loop-k.invariant.0,
+  sym (each_last _ 8 64 c.loop-k.k c.loop-k.floats c.loop-k-test.false) ∙ c.loop-k.invariant.1,
+)

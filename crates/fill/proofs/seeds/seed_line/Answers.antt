@@ -13,28 +13,6 @@ use Rattle.fill.proofs.Scan.{seeds_end}
 use Rattle.fill.proofs.Stretches.{Onset, onset, run_within, seeds_others, seeds_more, seeds_turn}
 use Rattle.fill.proofs.Entries.{held_length, held_push}
 use Rattle.fill.proofs.seeds.seed_line.Goals as goal
-use Rattle.fill.proofs.seeds.seed_line.Tie as tie
-
--- where bytes begin there is room for an entry
-room : (c : tie.In-loop invariant-loop decreases-loop) → c.before.loop.top < length c.before.loop.stack
-room c =
-    let s = c.before.before.before.before.before.before in
-    let l = c.before.loop in
-    let a = s.args in
-    let t = c.loop-test.true in
-    let more = seeds_more a.pic.now a.base a.from a.w a.y s.requires.0.0 (λ e. pixel e a.y) l.x (a.left + a.n) (held l.stack l.top) t (l.invariant.1.shown t) in
-    omega (arith, more, ap length l.invariant.0, s.requires.1, held_length l.stack l.top, l.invariant.2)
-
--- where the run that begins there ends, and where the next one begins
-ends : (c : tie.After-past-run invariant-loop decreases-loop)
-    → let a = c.before.before.before.before.before.before.before.args in
-    (c.before.before.loop.x + 1 ≤ c.past-run.result) × (c.past-run.result ≤ a.left + a.n)
-ends c = run_within _ _ _ _ _ _ _ (omega arith) c.past-run.ensures
-
-next : (c : tie.After-past-others2 invariant-loop decreases-loop)
-    → let a = c.before.before.before.before.before.before.before.before.args in
-    Onset a.pic.now a.base a.from c.before.past-run.result (a.left + a.n) c.past-others2.result
-next c = onset _ _ _ _ _ _ _ (omega (arith, ends c.before)) c.past-others2.ensures
 
 pub seed_pixel-requires : goal.seed_pixel-requires
 seed_pixel-requires c =
@@ -54,29 +32,55 @@ loop-x-init c =
     (seeds_others _ _ _ _ _ c.requires.base_value.0 _ _ _ _ _ _ refl e, onset _ _ _ _ _ _ _ refl e, refl)
 
 pub offset_bounds-stack-top : goal.offset_bounds-stack-top
-offset_bounds-stack-top c = omega (arith, room c, c.well-formed, c.loop-x.invariant.2)
+offset_bounds-stack-top c =
+    let room : c.loop-x.top < length c.loop-x.stack =
+    let more = seeds_more c.args.pic.now c.args.base c.args.from c.args.w c.args.y c.requires.base_value.0 (λ e. pixel e c.args.y) c.loop-x.x (c.args.left + c.args.n) (held c.loop-x.stack c.loop-x.top) c.loop-x-test.true (c.loop-x.invariant.1.shown c.loop-x-test.true) in
+    omega (arith, more, ap length c.loop-x.invariant.0, c.requires.sp_in_bounds, held_length c.loop-x.stack c.loop-x.top, c.loop-x.invariant.2)
+    in
+    omega (arith, room, c.well_formed, c.loop-x.invariant.2)
 
 pub bounds-stack-top : goal.bounds-stack-top
-bounds-stack-top c = room c
+bounds-stack-top c =
+    let room : c.loop-x.top < length c.loop-x.stack =
+    let more = seeds_more c.args.pic.now c.args.base c.args.from c.args.w c.args.y c.requires.base_value.0 (λ e. pixel e c.args.y) c.loop-x.x (c.args.left + c.args.n) (held c.loop-x.stack c.loop-x.top) c.loop-x-test.true (c.loop-x.invariant.1.shown c.loop-x-test.true) in
+    omega (arith, more, ap length c.loop-x.invariant.0, c.requires.sp_in_bounds, held_length c.loop-x.stack c.loop-x.top, c.loop-x.invariant.2)
+    in
+    room
 
 pub overflow_add-top : goal.overflow_add-top
-overflow_add-top c = omega (arith, room c, c.well-formed, c.loop-x.invariant.2)
+overflow_add-top c =
+    let room : c.loop-x.top < length c.loop-x.stack =
+    let more = seeds_more c.args.pic.now c.args.base c.args.from c.args.w c.args.y c.requires.base_value.0 (λ e. pixel e c.args.y) c.loop-x.x (c.args.left + c.args.n) (held c.loop-x.stack c.loop-x.top) c.loop-x-test.true (c.loop-x.invariant.1.shown c.loop-x-test.true) in
+    omega (arith, more, ap length c.loop-x.invariant.0, c.requires.sp_in_bounds, held_length c.loop-x.stack c.loop-x.top, c.loop-x.invariant.2)
+    in
+    omega (arith, room, c.well_formed, c.loop-x.invariant.2)
 
 pub past_run-past-requires : goal.past_run-past-requires
 past_run-past-requires c = (omega arith, omega arith)
 
 pub past_others-x-requires-in-loop-x : goal.past_others-x-requires-in-loop-x
-past_others-x-requires-in-loop-x c = (omega (arith, ends c), omega arith)
+past_others-x-requires-in-loop-x c =
+    let ends : (c.loop-x.x + 1 ≤ c.past_run-past.result) × (c.past_run-past.result ≤ c.args.left + c.args.n) = run_within _ _ _ _ _ _ _ (omega arith) c.past_run-past.ensures in
+    (omega (arith, ends), omega arith)
 
 pub loop-x-smaller : goal.loop-x-smaller
-loop-x-smaller c = omega (arith, ends c.before, (next c).low)
+loop-x-smaller c =
+    let ends : (c.loop-x.x + 1 ≤ c.past_run-past.result) × (c.past_run-past.result ≤ c.args.left + c.args.n) = run_within _ _ _ _ _ _ _ (omega arith) c.past_run-past.ensures in
+    let next : Onset c.args.pic.now c.args.base c.args.from c.past_run-past.result (c.args.left + c.args.n) c.past_others-x-in-loop-x.result = onset _ _ _ _ _ _ _ (omega (arith, ends)) c.past_others-x-in-loop-x.ensures in
+    omega (arith, ends, (next).low)
 
 pub loop-x-preserved : goal.loop-x-preserved
 loop-x-preserved c =
-    let push = held_push c.loop-x.stack c.loop-x.top c.loop-x.x c.args.y (c.loop-x.top + 1) (room c.before.before) (omega arith) (omega arith) in
+    let room : c.loop-x.top < length c.loop-x.stack =
+    let more = seeds_more c.args.pic.now c.args.base c.args.from c.args.w c.args.y c.requires.base_value.0 (λ e. pixel e c.args.y) c.loop-x.x (c.args.left + c.args.n) (held c.loop-x.stack c.loop-x.top) c.loop-x-test.true (c.loop-x.invariant.1.shown c.loop-x-test.true) in
+    omega (arith, more, ap length c.loop-x.invariant.0, c.requires.sp_in_bounds, held_length c.loop-x.stack c.loop-x.top, c.loop-x.invariant.2)
+    in
+    let ends : (c.loop-x.x + 1 ≤ c.past_run-past.result) × (c.past_run-past.result ≤ c.args.left + c.args.n) = run_within _ _ _ _ _ _ _ (omega arith) c.past_run-past.ensures in
+    let next : Onset c.args.pic.now c.args.base c.args.from c.past_run-past.result (c.args.left + c.args.n) c.past_others-x-in-loop-x.result = onset _ _ _ _ _ _ _ (omega (arith, ends)) c.past_others-x-in-loop-x.ensures in
+    let push = held_push c.loop-x.stack c.loop-x.top c.loop-x.x c.args.y (c.loop-x.top + 1) (room) (omega arith) (omega arith) in
     let turn = seeds_turn _ _ _ _ _ c.requires.base_value.0 _ _ _ _ _ _ _ c.loop-x-test.true (c.loop-x.invariant.1.shown c.loop-x-test.true) push c.past_run-past.ensures c.past_others-x-in-loop-x.ensures in
-    let o = next c in
-    (c.loop-x.invariant.0 ∙ turn, record { low = omega (arith, ends c.before, o.low); high = o.high; shown = o.shown }, simp length-set c.loop-x.invariant.2)
+    let o = next in
+    (c.loop-x.invariant.0 ∙ turn, record { low = omega (arith, ends, o.low); high = o.high; shown = o.shown }, simp length-set c.loop-x.invariant.2)
 
 pub returns : goal.returns
 returns c =

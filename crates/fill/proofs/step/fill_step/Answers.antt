@@ -10,10 +10,10 @@ pub overflow_cast-e : goal.overflow_cast-e
 overflow_cast-e c = omega (arith, c.slice_known-3-1.given (c.args.sp - 1))
 
 pub overflow_mul-base : goal.overflow_mul-base
-overflow_mul-base c = omega (arith, entry_fits c.requires, c.well-formed)
+overflow_mul-base c = omega (arith, entry_fits c.requires, c.well_formed)
 
 pub overflow_add-base : goal.overflow_add-base
-overflow_add-base c = omega (arith, entry_fits c.requires, c.well-formed)
+overflow_add-base c = omega (arith, entry_fits c.requires, c.well_formed)
 
 pub bounds-pic-base : goal.bounds-pic-base
 bounds-pic-base c = entry_fits c.requires

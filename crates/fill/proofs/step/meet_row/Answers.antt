@@ -5,10 +5,10 @@ use Rattle.fill.proofs.Stepping.{row_fits, row_wide, painted_sized, room_above, 
 use Rattle.fill.proofs.step.meet_row.Goals as goal
 
 pub overflow_mul-base : goal.overflow_mul-base
-overflow_mul-base c = omega (arith, row_fits c.requires, c.well-formed)
+overflow_mul-base c = omega (arith, row_fits c.requires, c.well_formed)
 
 pub overflow_add-base : goal.overflow_add-base
-overflow_add-base c = omega (arith, row_fits c.requires, c.well-formed)
+overflow_add-base c = omega (arith, row_fits c.requires, c.well_formed)
 
 pub paint_run-requires : goal.paint_run-requires
 paint_run-requires c = row_fits c.requires

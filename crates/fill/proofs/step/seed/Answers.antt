@@ -9,10 +9,10 @@ use Rattle.fill.proofs.Entries.{held_none, held_push}
 use Rattle.fill.proofs.step.seed.Goals as goal
 
 pub overflow_mul-base : goal.overflow_mul-base
-overflow_mul-base c = omega (arith, pixel_inside c.requires.0 _ _ c.requires.1 c.requires.2, c.well-formed)
+overflow_mul-base c = omega (arith, pixel_inside c.requires.0 _ _ c.requires.1 c.requires.2, c.well_formed)
 
 pub overflow_add-result : goal.overflow_add-result
-overflow_add-result c = omega (arith, pixel_inside c.requires.0 _ _ c.requires.1 c.requires.2, c.well-formed)
+overflow_add-result c = omega (arith, pixel_inside c.requires.0 _ _ c.requires.1 c.requires.2, c.well_formed)
 
 pub bounds-pic-base : goal.bounds-pic-base
 bounds-pic-base c = pixel_inside c.requires.0 _ _ c.requires.1 c.requires.2

@@ -9,31 +9,26 @@ use Rattle.picture.proofs.Judged.{refusal_stands, sound_clear}
 use Rattle.picture.proofs.Passed.{clear_roomy}
 use Rattle.fit.specs.Tests.{own_tests}
 use Rattle.fit.proofs.ladder.fittable.Goals as goal
-use Rattle.fit.proofs.ladder.fittable.Tie as tie
-
--- what is tested first, and what is left to test
-before : tie.Start → List Test
-before s = room_tests s.args.width s.args.height s.args.len s.args.lent
-
-after : tie.Start → List Test
-after s = own_tests s.args.width s.args.height s.args.scratch s.args.table s.args.group
-
-passed : (c : tie.In-Sound) → Clear (before c.before.before.before)
-unfolding before
-passed c = sound_clear (before c.before.before.before) c.room.ensures c.in-Sound.is
 
 pub own-requires : goal.own-requires
 unfolding before
 own-requires c =
-    let R = clear_roomy c.args.width c.args.height c.args.len c.args.lent (passed c) in
+    let before : List Test = room_tests c.args.width c.args.height c.args.len c.args.lent in
+    let passed : Clear (before) = sound_clear (before) c.room.ensures c.in-Sound.is in
+    let R = clear_roomy c.args.width c.args.height c.args.len c.args.lent (passed) in
     (R.sized.wide, R.sized.tall)
 
 pub returns-in-Refused : goal.returns-in-Refused
 unfolding before after
 returns-in-Refused c =
-    refusal_stands (before c.before.before.before.before) (after c.before.before.before.before) sound c.room.ensures c.in-Refused.is
+    let before : List Test = room_tests c.args.width c.args.height c.args.len c.args.lent in
+    let after : List Test = own_tests c.args.width c.args.height c.args.scratch c.args.table c.args.group in
+    refusal_stands (before) (after) sound c.room.ensures c.in-Refused.is
 
 pub returns-in-Sound : goal.returns-in-Sound
 unfolding before after
 returns-in-Sound c =
-    sym (first_after (before c.before.before.before.before) (after c.before.before.before.before) sound (passed c.before) ∙ sym {b = first (after c.before.before.before.before) sound} c.own.ensures)
+    let before : List Test = room_tests c.args.width c.args.height c.args.len c.args.lent in
+    let after : List Test = own_tests c.args.width c.args.height c.args.scratch c.args.table c.args.group in
+    let passed : Clear (before) = sound_clear (before) c.room.ensures c.in-Sound.is in
+    sym (first_after (before) (after) sound (passed) ∙ sym {b = first (after) sound} c.own.ensures)

@@ -10,22 +10,19 @@ use Rattle.sizes.proofs.Size.{from_zero, size_fits}
 use Rattle.fit.specs.Tests.{along}
 use Rattle.fit.proofs.Taken.{below}
 use Rattle.fit.proofs.ladder.is_along.Goals as goal
-use Rattle.fit.proofs.ladder.is_along.Tie as tie
-
--- what is not below 0 is its own size
-is_size : (c : tie.Else-z-lt0) → c.args.z ≡ pos (nat_abs c.args.z)
-is_size c = from_zero _ (rw (to_z-of_z c.ranges.z) at c.if-z-lt0.false)
-
-read : (c : tie.Else-z-lt0) → to_z w32 (of_z w32 c.args.z) ≡ pos (nat_abs c.args.z)
-read c = to_z-of_z c.ranges.z ∙ is_size c
 
 pub returns-then-z-lt0 : goal.returns-then-z-lt0
 returns-then-z-lt0 c = sym (below _ _ (rw (to_z-of_z c.ranges.z) at c.if-z-lt0.true))
 
 pub overflow_cast-n : goal.overflow_cast-n
-overflow_cast-n c = let few = size_fits c.ranges.z in rw (read c) (tt, record { fits = omega arith })
+overflow_cast-n c =
+    let is_size : c.args.z ≡ pos (nat_abs c.args.z) = from_zero _ (rw (to_z-of_z c.ranges.z) at c.if-z-lt0.false) in
+    let read : to_z w32 (of_z w32 c.args.z) ≡ pos (nat_abs c.args.z) = to_z-of_z c.ranges.z ∙ is_size in
+    let few = size_fits c.ranges.z in rw (read) (tt, record { fits = omega arith })
 
 pub returns : goal.returns
 unfolding along
 returns c =
-    ap (λ n. ltb n c.args.side) (ap nat_abs (read c)) ∙ sym (ap (along c.args.side) (is_size c))
+    let is_size : c.args.z ≡ pos (nat_abs c.args.z) = from_zero _ (rw (to_z-of_z c.ranges.z) at c.if-z-lt0.false) in
+    let read : to_z w32 (of_z w32 c.args.z) ≡ pos (nat_abs c.args.z) = to_z-of_z c.ranges.z ∙ is_size in
+    ap (λ n. ltb n c.args.side) (ap nat_abs (read)) ∙ sym (ap (along c.args.side) (is_size))

@@ -13,12 +13,12 @@ pub returns-then-scratch-width : goal.returns-then-scratch-width
 returns-then-scratch-width c = rw (lt-ltb _ _ c.if-scratch-width.true)
 
 pub returns-then-not-is_sound : goal.returns-then-not-is_sound
-returns-then-not-is_sound c = rw (le-ltb _ _ c.if-scratch-width.false, sym c.is_sound.ensures ∙ not-true _ c.if-not-is_sound.true)
+returns-then-not-is_sound c = rw (le-ltb _ _ c.if-scratch-width.false, sym c.is_sound.ensures ∙ c.if-not-is_sound.true)
 
 pub returns-then-not-is_taken_whole : goal.returns-then-not-is_taken_whole
 returns-then-not-is_taken_whole c =
-    rw (le-ltb _ _ c.if-scratch-width.false, sym c.is_sound.ensures ∙ not-false _ c.if-not-is_sound.false, sym c.is_taken_whole.ensures ∙ not-true _ c.if-not-is_taken_whole.true)
+    rw (le-ltb _ _ c.if-scratch-width.false, sym c.is_sound.ensures ∙ c.if-not-is_sound.false, sym c.is_taken_whole.ensures ∙ c.if-not-is_taken_whole.true)
 
 pub returns : goal.returns
 returns c =
-    rw (le-ltb _ _ c.if-scratch-width.false, sym c.is_sound.ensures ∙ not-false _ c.if-not-is_sound.false, sym c.is_taken_whole.ensures ∙ not-false _ c.if-not-is_taken_whole.false)
+    rw (le-ltb _ _ c.if-scratch-width.false, sym c.is_sound.ensures ∙ c.if-not-is_sound.false, sym c.is_taken_whole.ensures ∙ c.if-not-is_taken_whole.false)

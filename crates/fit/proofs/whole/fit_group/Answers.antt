@@ -8,15 +8,11 @@ use Rattle.fit.specs.Tests.{fit_tests}
 use Rattle.fit.specs.Fit.{refuses, fits}
 use Rattle.fit.proofs.Taken.{fittable}
 use Rattle.fit.proofs.whole.fit_group.Goals as goal
-use Rattle.fit.proofs.whole.fit_group.Tie as tie
-
--- nothing is refused before the steps
-passed : (c : tie.In-Sound) → first (fit_tests c.args.width c.args.height (length c.args.pic.now) (length c.args.stack.now) (length c.args.scratch.now) c.args.table c.args.group) sound ≡ sound
-passed c = sym c.fittable.ensures ∙ ap judged c.in-Sound.is
 
 pub fit_kept-requires : goal.fit_kept-requires
 fit_kept-requires c =
-    let F = fittable _ _ _ _ _ _ _ (passed c.before.before.before) in
+    let passed : first (fit_tests c.args.width c.args.height (length c.args.pic.now) (length c.args.stack.now) (length c.args.scratch.now) c.args.table c.args.group) sound ≡ sound = sym c.fittable.ensures ∙ ap judged c.in-Sound.is in
+    let F = fittable _ _ _ _ _ _ _ (passed) in
     (F.workable, F.scratch, F.centred, F.cornered)
 
 pub returns-in-Refused : goal.returns-in-Refused
@@ -26,4 +22,5 @@ returns-in-Refused c =
 
 pub returns-in-Sound : goal.returns-in-Sound
 returns-in-Sound c =
-    fits (passed c.before.before.before.before.before.before.before.before.before.before) c.fit_kept.ensures
+    let passed : first (fit_tests c.args.width c.args.height (length c.args.pic.now) (length c.args.stack.now) (length c.args.scratch.now) c.args.table c.args.group) sound ≡ sound = sym c.fittable.ensures ∙ ap judged c.in-Sound.is in
+    fits (passed) c.fit_kept.ensures

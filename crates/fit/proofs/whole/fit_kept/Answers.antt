@@ -5,27 +5,17 @@ use borrow.Author.Rules.{rules}
 use Rattle.fit.specs.Fit.{put_back, stands}
 use Rattle.fit.proofs.Scratch.{kept_front}
 use Rattle.fit.proofs.whole.fit_kept.Goals as goal
-use Rattle.fit.proofs.whole.fit_kept.Tie as tie
 
 -- LEFT copy-requires : copy-requires
 -- copy-requires c κs = let s = c.before.before.before.before.before in omega (arith, s.requires.0.roomy.sized.whole, s.requires.1)
 
--- once the steps are done: the start, the copy and the steps
-module _ (c : tie.After-from-group) where
-  abbrev copied : tie.After-copy
-  copied = c.before.before.before.before.before
-
-  abbrev start : tie.Start
-  start = copied.before.before.before.before.before.before
-
 pub put_back-requires : goal.put_back-requires
 put_back-requires c =
-    let s = start c.before.before.before.before.before.before.before.before in
-    omega (arith, c.from_group-fitted.auto.0, (copied c.before.before.before.before.before.before.before.before).copy.auto.1.0, s.pre.0.roomy.sized.whole, s.pre.1)
+    omega (arith, c.from_group-fitted.auto.0, (copied c.before.before.before.before.before.before.before.before).copy.auto.1.0, c.requires.0.roomy.sized.whole, c.requires.1)
 
 pub returns-then-is_refused : goal.returns-then-is_refused
 returns-then-is_refused c =
-    let back = c.put_back.ensures ∙ kept_front (start c.before.before.before.before.before.before.before.before.before.before.before).args.pic.now c.from_group-fitted.new.pic (start c.before.before.before.before.before.before.before.before.before.before.before).args.scratch.now (copied c.before.before.before.before.before.before.before.before.before.before.before).copy.new.1.0 c.from_group-fitted.auto.0 (copied c.before.before.before.before.before.before.before.before.before.before.before).copy.ensures.1 in
+    let back = c.put_back.ensures ∙ kept_front c.args.pic.now c.from_group-fitted.new.pic c.args.scratch.now (copied c.before.before.before.before.before.before.before.before.before.before.before).copy.new.1.0 c.from_group-fitted.auto.0 (copied c.before.before.before.before.before.before.before.before.before.before.before).copy.ensures.1 in
     put_back (sym c.is_refused.ensures ∙ c.if-is_refused.true) _ _ c.from_group-fitted.ensures back refl
 
 pub returns : goal.returns

@@ -9,15 +9,6 @@ use Rattle.groupings.proofs.Few.{beside_unused}
 use Rattle.groupings.proofs.Front.{triable, beside_wider}
 use Rattle.groupings.proofs.Neighbours.{not_refused, count_few, each_proper, from_array}
 use Rattle.groupings.proofs.centres.try_centre.Goals as goal
-use Rattle.groupings.proofs.centres.try_centre.Tie as tie
-
--- the array's length, by its type
-long : (s : tie.Start) → length s.args.stones ≡ 64
-long s = search rules
-
--- the stones that count are in the array
-whole : (s : tie.Start) → s.args.n ≤ length s.args.stones
-whole s = omega (arith, long s, s.requires.2.few)
 
 pub is_used-requires : goal.is_used-requires
 is_used-requires c = c.requires.4.laid.few
@@ -28,11 +19,13 @@ returns-then-is_used c =
 
 pub try_pairs-requires : goal.try_pairs-requires
 try_pairs-requires c =
+    let long : length c.args.stones ≡ 64 = search rules in
+    let whole : c.args.n ≤ length c.args.stones = omega (arith, long, c.requires.2.few) in
     let free = sym c.is_used.ensures ∙ c.if-is_used.false in (
       c.requires.0,
       c.requires.1,
-      count_few c.args.stones c.args.n c.args.idx c.requires.2.few (whole c.before.before.before.before.before.before.before.before.before.before.before.before) c.requires.3 c.find_and_rank_possible_neighbors-ranked.result c.find_and_rank_possible_neighbors-ranked.ensures _ c.in-Pairs.is,
-      (λ k low. triable c.args.stones c.requires.3 (each_proper c.args.stones c.args.n c.args.idx c.requires.2.few (whole c.before.before.before.before.before.before.before.before.before.before.before.before) c.requires.3 c.find_and_rank_possible_neighbors-ranked.result c.find_and_rank_possible_neighbors-ranked.ensures _ c.in-Pairs.is k low) c.requires.2),
+      count_few c.args.stones c.args.n c.args.idx c.requires.2.few (whole) c.requires.3 c.find_and_rank_possible_neighbors-ranked.result c.find_and_rank_possible_neighbors-ranked.ensures _ c.in-Pairs.is,
+      (λ k low. triable c.args.stones c.requires.3 (each_proper c.args.stones c.args.n c.args.idx c.requires.2.few (whole) c.requires.3 c.find_and_rank_possible_neighbors-ranked.result c.find_and_rank_possible_neighbors-ranked.ensures _ c.in-Pairs.is k low) c.requires.2),
       c.requires.4,
       beside_wider c.requires.2.few (beside_unused c.requires.5 free c.requires.3),
       c.requires.6,
@@ -40,9 +33,13 @@ try_pairs-requires c =
 
 pub returns-in-Pairs : goal.returns-in-Pairs
 returns-in-Pairs c =
+    let long : length c.args.stones ≡ 64 = search rules in
+    let whole : c.args.n ≤ length c.args.stones = omega (arith, long, c.requires.2.few) in
     let free = sym c.is_used.ensures ∙ c.if-is_used.false in
-    (with_pairs free (from_array c.args.stones c.args.n c.args.idx c.requires.2.few (whole c.before.before.before.before.before.before.before.before.before.before.before.before.before.before.before.before.before) c.requires.3 c.find_and_rank_possible_neighbors-ranked.result c.find_and_rank_possible_neighbors-ranked.ensures _ c.in-Pairs.is c.try_pairs.ensures.0), c.try_pairs.ensures.1, c.try_pairs.ensures.2)
+    (with_pairs free (from_array c.args.stones c.args.n c.args.idx c.requires.2.few (whole) c.requires.3 c.find_and_rank_possible_neighbors-ranked.result c.find_and_rank_possible_neighbors-ranked.ensures _ c.in-Pairs.is c.try_pairs.ensures.0), c.try_pairs.ensures.1, c.try_pairs.ensures.2)
 
 pub returns-in-Refused : goal.returns-in-Refused
 returns-in-Refused c =
-    absurd (not_refused c.args.stones c.args.n c.args.idx c.requires.2.few (whole c.before.before.before.before.before.before.before.before.before.before.before) c.requires.3 c.find_and_rank_possible_neighbors-ranked.result c.find_and_rank_possible_neighbors-ranked.ensures _ c.in-Refused.is)
+    let long : length c.args.stones ≡ 64 = search rules in
+    let whole : c.args.n ≤ length c.args.stones = omega (arith, long, c.requires.2.few) in
+    absurd (not_refused c.args.stones c.args.n c.args.idx c.requires.2.few (whole) c.requires.3 c.find_and_rank_possible_neighbors-ranked.result c.find_and_rank_possible_neighbors-ranked.ensures _ c.in-Refused.is)

@@ -10,11 +10,6 @@ use Rattle.groupings.specs.Held.{groups_of}
 use Rattle.groupings.proofs.Copy.{still_workable}
 use Rattle.groupings.proofs.Going.{AfterPairs, pairs_begin, array_end, array_stop, array_next}
 use Rattle.groupings.proofs.pairs.try_pairs.Goals as goal
-use Rattle.groupings.proofs.pairs.try_pairs.Tie as tie
-
--- the array's length, by its type
-long : (s : tie.Start invariant-loop decreases-loop) → length s.args.t9 ≡ 992
-long s = search rules
 
 pub loop-k-init : goal.loop-k-init
 loop-k-init c = (pairs_begin c.requires.4 c.requires.5, omega arith, refl, refl, c.requires.6)
@@ -25,13 +20,15 @@ try_pair-sofar-requires c =
 
 pub returns-then-not-is_sound : goal.returns-then-not-is_sound
 returns-then-not-is_sound c =
-    let stops = sym c.is_sound.ensures ∙ not-true _ c.if-not-is_sound.true in
-    (array_stop c.args.t9 c.args.count (omega (arith, long c.before.before.before.before.before.before.before.before.before.before.before.before.before.before.before, c.requires.2)) c.loop-k.invariant.0 c.loop-k-test.true c.try_pair-sofar.result c.try_pair-sofar.ensures.0 stops, c.try_pair-sofar.ensures.1, c.try_pair-sofar.ensures.2)
+    let long : length c.args.t9 ≡ 992 = search rules in
+    let stops = sym c.is_sound.ensures ∙ c.if-not-is_sound.true in
+    (array_stop c.args.t9 c.args.count (omega (arith, long, c.requires.2)) c.loop-k.invariant.0 c.loop-k-test.true c.try_pair-sofar.result c.try_pair-sofar.ensures.0 stops, c.try_pair-sofar.ensures.1, c.try_pair-sofar.ensures.2)
 
 pub loop-k-preserved : goal.loop-k-preserved
 loop-k-preserved c =
-    let goes = sym c.is_sound.ensures ∙ not-false _ c.if-not-is_sound.false in (
-      array_next c.args.t9 c.args.count (omega (arith, long c.before.before.before.before.before.before.before.before.before.before.before.before.before.before.before, c.requires.2)) c.loop-k.invariant.0 c.loop-k-test.true c.try_pair-sofar.result c.try_pair-sofar.ensures.0 (c.requires.3 c.loop-k.k c.loop-k-test.true) c.try_pair-sofar.ensures.1 goes,
+    let long : length c.args.t9 ≡ 992 = search rules in
+    let goes = sym c.is_sound.ensures ∙ c.if-not-is_sound.false in (
+      array_next c.args.t9 c.args.count (omega (arith, long, c.requires.2)) c.loop-k.invariant.0 c.loop-k-test.true c.try_pair-sofar.result c.try_pair-sofar.ensures.0 (c.requires.3 c.loop-k.k c.loop-k-test.true) c.try_pair-sofar.ensures.1 goes,
       omega arith,
       omega (arith, c.loop-k.invariant.2, c.try_pair-sofar.auto.1.1.1.0),
       omega (arith, c.loop-k.invariant.3, c.try_pair-sofar.auto.1.1.1.1.0),
@@ -40,4 +37,5 @@ loop-k-preserved c =
 
 pub returns : goal.returns
 returns c =
-    (array_end c.args.t9 c.args.count (omega (arith, long c.before.before.before.before.before, c.requires.2)) c.loop-k.invariant.0 (omega arith) c.loop-k.invariant.1, c.loop-k.invariant.0.holds.laid, c.loop-k.invariant.4)
+    let long : length c.args.t9 ≡ 992 = search rules in
+    (array_end c.args.t9 c.args.count (omega (arith, long, c.requires.2)) c.loop-k.invariant.0 (omega arith) c.loop-k.invariant.1, c.loop-k.invariant.0.holds.laid, c.loop-k.invariant.4)

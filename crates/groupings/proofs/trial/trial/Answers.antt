@@ -9,22 +9,16 @@ use Rattle.setups.specs.Remember.{Remembers}
 use Rattle.setups.proofs.Known.{blank_remembers}
 use Rattle.groupings.proofs.Copy.{few_entries, copy_workable, copy_same, trial_of}
 use Rattle.groupings.proofs.trial.trial.Goals as goal
-use Rattle.groupings.proofs.trial.trial.Tie as tie
-
--- the table's arrays have the length of their type
-entries : (s : tie.Start) → length s.args.table.entries ≡ 251
-entries s = sym (length-map s.args.table.entries _) ∙ s.well-formed.1.1.1.1.1.0.1.1.0.1.0.1
-
-age : (s : tie.Start) → length s.args.table.age ≡ 251
-age s = search rules
 
 pub copied-turned-requires : goal.copied-turned-requires
 copied-turned-requires c = few_entries _ _ _ c.requires.0.sound
 
 pub refit-fitted-requires : goal.refit-fitted-requires
 refit-fitted-requires c =
+    let entries : length c.args.table.entries ≡ 251 = sym (length-map c.args.table.entries _) ∙ c.well_formed.1.1.1.1.1.0.1.1.0.1.0.1 in
+    let age : length c.args.table.age ≡ 251 = search rules in
     let same = copy_same c.args.pic.now c.args.scratch.now _ c.copy.ensures.1 in
-    (copy_workable _ _ _ _ _ _ c.args.table _ (entries c.before.before.before.before.before.before.before.before.before.before.before) (age c.before.before.before.before.before.before.before.before.before.before.before) c.requires.0 same (omega arith) c.copied-turned.ensures, c.requires.2, c.requires.3, blank_remembers c.no_setup-known.ensures)
+    (copy_workable _ _ _ _ _ _ c.args.table _ (entries) (age) c.requires.0 same (omega arith) c.copied-turned.ensures, c.requires.2, c.requires.3, blank_remembers c.no_setup-known.ensures)
 
 pub returns : goal.returns
 returns c =

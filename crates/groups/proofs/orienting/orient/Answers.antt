@@ -6,19 +6,16 @@ use Rattle.corners.specs.Scores.{Direction}
 use Rattle.corners.proofs.Small.{way_direction}
 use Rattle.groups.specs.Orient.{oriented}
 use Rattle.groups.proofs.orienting.orient.Goals as goal
-use Rattle.groups.proofs.orienting.orient.Tie as tie
-
--- the line from the first centre to the third
-line : (c : tie.After-line_from-hd) → Direction c.line_from-hd.result
-line c =
-    subst Direction (sym c.line_from-hd.ensures) (way_direction c.requires.first c.requires.third)
 
 pub side_of-requires : goal.side_of-requires
 side_of-requires c =
-    record { fact_1 = c.requires.first; fact_2 = line c.before; fact_3 = c.requires.second }
+    let line : Direction c.line_from-hd.result = subst Direction (sym c.line_from-hd.ensures) (way_direction c.requires.first c.requires.third) in
+    record { fact_1 = c.requires.first; fact_2 = line; fact_3 = c.requires.second }
 
 pub reversed-back-requires : goal.reversed-back-requires
-reversed-back-requires c = line c.before.before.before
+reversed-back-requires c =
+    let line : Direction c.line_from-hd.result = subst Direction (sym c.line_from-hd.ensures) (way_direction c.requires.first c.requires.third) in
+    line
 
 pub returns-then-side_of-gt0 : goal.returns-then-side_of-gt0
 unfolding oriented

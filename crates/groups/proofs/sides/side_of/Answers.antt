@@ -7,19 +7,17 @@ use Rattle.corners.proofs.Small.{way_direction}
 use Rattle.groups.specs.Side.{side_of}
 use Rattle.groups.proofs.Beside.{span_back, cross_low}
 use Rattle.groups.proofs.sides.side_of.Goals as goal
-use Rattle.groups.proofs.sides.side_of.Tie as tie
-
--- the way from h0 to the point
-way : (c : tie.After-line_from-way) → Direction c.line_from-way.result
-way c = subst Direction (sym c.line_from-way.ensures) (way_direction c.requires.fact_1 c.requires.fact_3)
 
 pub cross-requires : goal.cross-requires
-cross-requires c = let w = way c.before.before.before.before in search (rules, cross_low)
+cross-requires c =
+    let way : Direction c.line_from-way.result = subst Direction (sym c.line_from-way.ensures) (way_direction c.requires.fact_1 c.requires.fact_3) in
+    let w = way in search (rules, cross_low)
 
 pub returns : goal.returns
 unfolding side_of across_of
 returns c =
-    let w = way c.before.before.before.before.before in
+    let way : Direction c.line_from-way.result = subst Direction (sym c.line_from-way.ensures) (way_direction c.requires.fact_1 c.requires.fact_3) in
+    let w = way in
     rw (
       read_back c.cross.result c.cross.type_inv,
       c.cross.ensures,

@@ -52,7 +52,7 @@ returns-2 c =
     let s = c.before.before.before.before.before.before.before.before.before in
     let put = c.before.before.Put-refused in
     let room : put.result ≤ length s.args.out.now = omega (arith, put.ensures.short, s.requires.2) in
-    (rw c.before.before.before.before.before.enum_told.given.1 (prints_refused s.args.pixels.now (rw c.before.before.before.before.number_of_lem.ensures at (puts_first put.ensures room))), omega (arith, room, put.auto.1.0))
+    (rw c.before.before.before.before.before.enum_told.given.1 (prints_refused s.args.pixels.now (rw c.before.before.before.before.number_of.ensures at (puts_first put.ensures room))), omega (arith, room, put.auto.1.0))
 
 pub answer-spec : {M : Type 1} → statement M
 answer-spec =

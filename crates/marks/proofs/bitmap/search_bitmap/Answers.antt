@@ -7,14 +7,11 @@ use Rattle.picture.specs.Verdict.{judged}
 use Rattle.marks.specs.OfBitmap.{bitmap_tests, refuses, searches}
 use Rattle.marks.proofs.Begin.{begins_work}
 use Rattle.marks.proofs.bitmap.search_bitmap.Goals as goal
-use Rattle.marks.proofs.bitmap.search_bitmap.Tie as tie
-
--- no test applies
-passed : (c : tie.In-Sound) → first (bitmap_tests c.args.pic.now c.args.width c.args.height (length c.args.stack.now)) sound ≡ sound
-passed c = sym c.judge.ensures ∙ ap judged c.in-Sound.is
 
 pub capstones_from_image-requires : goal.capstones_from_image-requires
-capstones_from_image-requires c = rw c.empty-in-Sound.ensures (begins_work _ _ _ _ (passed c.before.before.before))
+capstones_from_image-requires c =
+    let passed : first (bitmap_tests c.args.pic.now c.args.width c.args.height (length c.args.stack.now)) sound ≡ sound = sym c.judge.ensures ∙ ap judged c.in-Sound.is in
+    rw c.empty-in-Sound.ensures (begins_work _ _ _ _ (passed))
 
 pub returns-in-Refused : goal.returns-in-Refused
 returns-in-Refused c =
@@ -22,4 +19,5 @@ returns-in-Refused c =
 
 pub returns-in-Sound : goal.returns-in-Sound
 returns-in-Sound c =
-    searches (passed c.before.before.before.before.before.before.before.before) (rw c.empty-in-Sound.ensures at c.capstones_from_image.ensures.0) c.capstones_from_image.ensures.1
+    let passed : first (bitmap_tests c.args.pic.now c.args.width c.args.height (length c.args.stack.now)) sound ≡ sound = sym c.judge.ensures ∙ ap judged c.in-Sound.is in
+    searches (passed) (rw c.empty-in-Sound.ensures at c.capstones_from_image.ensures.0) c.capstones_from_image.ensures.1

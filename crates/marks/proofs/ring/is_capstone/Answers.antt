@@ -10,7 +10,7 @@ is_same-requires c =
 
 pub returns-then-not-is_same : goal.returns-then-not-is_same
 returns-then-not-is_same c =
-    let same = sym c.is_same.ensures ∙ not-true _ c.if-not-is_same.true in
+    let same = sym c.is_same.ensures ∙ c.if-not-is_same.true in
     rw same
 
 pub is_pair-requires : goal.is_pair-requires
@@ -19,5 +19,5 @@ is_pair-requires c =
 
 pub returns : goal.returns
 returns c =
-    let same = sym c.is_same.ensures ∙ not-false _ c.if-not-is_same.false in
+    let same = sym c.is_same.ensures ∙ c.if-not-is_same.false in
     rw same c.is_pair.ensures

@@ -10,7 +10,6 @@ use Rattle.marks.proofs.Cut.{ring_lookable, stone_lookable, markable, tries_of}
 use Rattle.marks.proofs.Searching.{Over, reached, found_stones, tries_fit, takes_stone, takes_nothing, takes_refusal, over_begun, over_ends, over_less, over_asks, over_stops, over_next}
 use Rattle.marks.proofs.Whole.{all_stand}
 use Rattle.marks.proofs.search.capstones_from_image.Goals as goal
-use Rattle.marks.proofs.search.capstones_from_image.Tie as tie
 
 pub loop-line-init : goal.loop-line-init
 loop-line-init c =
@@ -28,43 +27,30 @@ pub get_region-ring-requires : goal.get_region-ring-requires
 get_region-ring-requires c =
     ring_lookable (over_asks c.loop-line.invariant.0 (reached c.in-At.is c.next_cut.ensures))
 
--- the room that each lookup leaves lent
-room_after : (c : tie.After-get-region invariant-loop decreases-loop) → length c.before.before.before.before.before.before.before.before.loop.stack ≤ length c.get-region.new.1.1.1.0
-room_after c = omega (arith, c.get-region.auto.1.1.1.0)
-
-room_then : (c : tie.After-get-region2 invariant-loop decreases-loop) → length c.before.before.before.before.before.before.before.before.get-region.new.1.1.1.0 ≤ length c.get-region2.new.1.1.1.0
-room_then c = omega (arith, c.get-region2.auto.1.1.1.0)
-
 pub get_region-stone-requires : goal.get_region-stone-requires
 get_region-stone-requires c =
-    stone_lookable (over_asks c.loop-line.invariant.0 (reached c.in-At.is c.next_cut.ensures)) (room_after c.before.before.before.before.before.before.before) c.get_region-ring.ensures
+    let room_after : length c.loop-line.stack ≤ length c.get_region-ring.new.stack = omega (arith, c.get_region-ring.auto.1.1.1.0) in
+    stone_lookable (over_asks c.loop-line.invariant.0 (reached c.in-At.is c.next_cut.ensures)) (room_after) c.get_region-ring.ensures
 
 pub mark_at-requires : goal.mark_at-requires
 mark_at-requires c =
-    markable c.get_region-ring.ensures c.get_region-stone.ensures (over_asks c.loop-line.invariant.0 (reached c.in-At.is c.next_cut.ensures)) (room_after c.before.before.before.before.before.before.before.before.before.before.before.before.before.before.before) (room_then c.before.before.before.before.before.before.before)
+    let room_after : length c.loop-line.stack ≤ length c.get_region-ring.new.stack = omega (arith, c.get_region-ring.auto.1.1.1.0) in
+    let room_then : length c.get_region-ring.new.stack ≤ length c.get_region-stone.new.stack = omega (arith, c.get_region-stone.auto.1.1.1.0) in
+    markable c.get_region-ring.ensures c.get_region-stone.ensures (over_asks c.loop-line.invariant.0 (reached c.in-At.is c.next_cut.ensures)) (room_after) (room_then)
 
 pub with_stone-marks-requires : goal.with_stone-marks-requires
 with_stone-marks-requires c =
     (c.loop-line.invariant.0.laid, c.loop-line.invariant.0.going, tries_fit (tries_of c.get_region-ring.ensures c.get_region-stone.ensures c.mark_at.ensures) (ap meaning c.in-Stone.is))
 
--- the lengths after a cut are those before it
-pic_kept : (c : tie.After-mark-at invariant-loop decreases-loop) → length c.mark-at.new.0 ≡ length c.before.before.before.before.before.before.before.before.before.before.before.before.before.before.before.before.before.before.before.before.before.before.before.before.loop.pic
-pic_kept c =
-    let second = c.before.before.before.before.before.before.before.before in
-    omega (arith, c.mark-at.auto.0, second.get-region2.auto.0, second.before.before.before.before.before.before.before.before.get-region.auto.0)
-
-stack_kept : (c : tie.After-mark-at invariant-loop decreases-loop) → length c.mark-at.new.1.1.1.0 ≡ length c.before.before.before.before.before.before.before.before.before.before.before.before.before.before.before.before.before.before.before.before.before.before.before.before.loop.stack
-stack_kept c =
-    let second = c.before.before.before.before.before.before.before.before in
-    omega (arith, c.mark-at.auto.1.1.1.0, second.get-region2.auto.1.1.1.0, second.before.before.before.before.before.before.before.before.get-region.auto.1.1.1.0)
-
 pub shape_of-pic-in-Refused : goal.shape_of-pic-in-Refused
 shape_of-pic-in-Refused c =
-    omega (arith, c.loop-line.invariant.1, pic_kept c.before.before.before.before.before.before.before.before)
+    let pic_kept : length c.mark_at.new.pic ≡ length c.loop-line.pic = omega (arith, c.mark_at.auto.0, c.get_region-stone.auto.0, c.get_region-ring.auto.0) in
+    omega (arith, c.loop-line.invariant.1, pic_kept)
 
 pub shape_of-stack-in-Refused : goal.shape_of-stack-in-Refused
 shape_of-stack-in-Refused c =
-    omega (arith, c.loop-line.invariant.2, stack_kept c.before.before.before.before.before.before.before.before)
+    let stack_kept : length c.mark_at.new.stack ≡ length c.loop-line.stack = omega (arith, c.mark_at.auto.1.1.1.0, c.get_region-stone.auto.1.1.1.0, c.get_region-ring.auto.1.1.1.0) in
+    omega (arith, c.loop-line.invariant.2, stack_kept)
 
 pub returns-in-Refused : goal.returns-in-Refused
 returns-in-Refused c =
@@ -77,8 +63,10 @@ loop-line-smaller-in-Stone c =
 
 pub loop-line-preserved-in-Stone : goal.loop-line-preserved-in-Stone
 loop-line-preserved-in-Stone c =
+    let stack_kept : length c.mark_at.new.stack ≡ length c.loop-line.stack = omega (arith, c.mark_at.auto.1.1.1.0, c.get_region-stone.auto.1.1.1.0, c.get_region-ring.auto.1.1.1.0) in
+    let pic_kept : length c.mark_at.new.pic ≡ length c.loop-line.pic = omega (arith, c.mark_at.auto.0, c.get_region-stone.auto.0, c.get_region-ring.auto.0) in
     let K = takes_stone (tries_of c.get_region-ring.ensures c.get_region-stone.ensures c.mark_at.ensures) (ap meaning c.in-Stone.is) c.with_stone-marks.ensures in
-    (over_next c.loop-line.invariant.0 (reached c.in-At.is c.next_cut.ensures) K (omega (arith, stack_kept c.before.before.before.before.before.before.before.before)) (found_stones c.with_stone-marks.result _ c.with_stone-marks.ensures.0).0, omega (arith, c.loop-line.invariant.1, pic_kept c.before.before.before.before.before.before.before.before), omega (arith, c.loop-line.invariant.2, stack_kept c.before.before.before.before.before.before.before.before))
+    (over_next c.loop-line.invariant.0 (reached c.in-At.is c.next_cut.ensures) K (omega (arith, stack_kept)) (found_stones c.with_stone-marks.result _ c.with_stone-marks.ensures.0).0, omega (arith, c.loop-line.invariant.1, pic_kept), omega (arith, c.loop-line.invariant.2, stack_kept))
 
 pub loop-line-smaller : goal.loop-line-smaller
 loop-line-smaller c =
@@ -86,5 +74,7 @@ loop-line-smaller c =
 
 pub loop-line-preserved : goal.loop-line-preserved
 loop-line-preserved c =
+    let stack_kept : length c.mark_at.new.stack ≡ length c.loop-line.stack = omega (arith, c.mark_at.auto.1.1.1.0, c.get_region-stone.auto.1.1.1.0, c.get_region-ring.auto.1.1.1.0) in
+    let pic_kept : length c.mark_at.new.pic ≡ length c.loop-line.pic = omega (arith, c.mark_at.auto.0, c.get_region-stone.auto.0, c.get_region-ring.auto.0) in
     let K = takes_nothing (tries_of c.get_region-ring.ensures c.get_region-stone.ensures c.mark_at.ensures) (ap meaning c.in-Dropped.is) c.loop-line.invariant.0.laid c.loop-line.invariant.0.going in
-    (over_next c.loop-line.invariant.0 (reached c.in-At.is c.next_cut.ensures) K (omega (arith, stack_kept c.before.before.before.before.before.before)) c.loop-line.invariant.0.going, omega (arith, c.loop-line.invariant.1, pic_kept c.before.before.before.before.before.before), omega (arith, c.loop-line.invariant.2, stack_kept c.before.before.before.before.before.before))
+    (over_next c.loop-line.invariant.0 (reached c.in-At.is c.next_cut.ensures) K (omega (arith, stack_kept)) c.loop-line.invariant.0.going, omega (arith, c.loop-line.invariant.1, pic_kept), omega (arith, c.loop-line.invariant.2, stack_kept))

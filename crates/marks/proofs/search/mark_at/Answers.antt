@@ -9,12 +9,12 @@ pub is_capstone-requires : goal.is_capstone-requires
 is_capstone-requires c = c.requires.testable
 
 pub returns-then-not-is_capstone : goal.returns-then-not-is_capstone
-returns-then-not-is_capstone c = no_mark (sym c.is_capstone.ensures ∙ not-true _ c.if-not-is_capstone.true) refl refl
+returns-then-not-is_capstone c = no_mark (sym c.is_capstone.ensures ∙ c.if-not-is_capstone.true) refl refl
 
 pub create_capstone-requires : goal.create_capstone-requires
 create_capstone-requires c =
-    c.requires.ringed (sym c.is_capstone.ensures ∙ not-false _ c.if-not-is_capstone.false)
+    c.requires.ringed (sym c.is_capstone.ensures ∙ c.if-not-is_capstone.false)
 
 pub returns : goal.returns
 returns c =
-    a_mark (sym c.is_capstone.ensures ∙ not-false _ c.if-not-is_capstone.false) c.create_capstone.ensures
+    a_mark (sym c.is_capstone.ensures ∙ c.if-not-is_capstone.false) c.create_capstone.ensures

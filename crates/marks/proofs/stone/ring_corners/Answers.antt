@@ -7,7 +7,6 @@ use Rattle.corners.proofs.Small.{first_corner_ready, all_corners_ready}
 use Rattle.marks.specs.Stone.{first_corner}
 use Rattle.marks.proofs.Fills.{ring_sides, fill_four, seed_low, seed_within, corner_within, fill_two}
 use Rattle.marks.proofs.stone.ring_corners.Goals as goal
-use Rattle.marks.proofs.stone.ring_corners.Tie as tie
 
 pub point_at-start-requires : goal.point_at-start-requires
 point_at-start-requires c = seed_low c.requires
@@ -21,14 +20,11 @@ unfolding first_corner
 new-finders-requires c =
     record { fact_1 = rw c.point_at-start.ensures (seed_within c.requires); fact_2 = rw (c.fill_first_corner-first.ensures.1, c.new-finder.ensures, c.point_at-start.ensures) (corner_within c.requires) }
 
--- the room that the first fill leaves lent
-room_after : (c : tie.After-fill_first_corner-first) → length c.args.stack.now ≤ length c.fill_first_corner-first.new.stack
-room_after c = omega (arith, c.fill_first_corner-first.auto.1.1.1.0)
-
 pub fill_all_corners-requires : goal.fill_all_corners-requires
 unfolding first_corner
 fill_all_corners-requires c =
-    record { fact_1 = fill_two c.requires c.fill_first_corner-first.ensures.0 (room_after c.before.before.before.before.before.before.before.before.before); fact_2 = (ring_sides c.requires, rw (c.new-finders.ensures, c.fill_first_corner-first.ensures.1, c.new-finder.ensures, c.point_at-start.ensures) (all_corners_ready (seed_within c.requires) (corner_within c.requires))); fact_3 =  }
+    let room_after : length c.args.stack.now ≤ length c.fill_first_corner-first.new.stack = omega (arith, c.fill_first_corner-first.auto.1.1.1.0) in
+    record { fact_1 = fill_two c.requires c.fill_first_corner-first.ensures.0 (room_after); fact_2 = (ring_sides c.requires, rw (c.new-finders.ensures, c.fill_first_corner-first.ensures.1, c.new-finder.ensures, c.point_at-start.ensures) (all_corners_ready (seed_within c.requires) (corner_within c.requires))); fact_3 =  }
 
 pub returns : goal.returns
 unfolding first_corner

@@ -9,7 +9,7 @@ returns-then-x c = below_zero c.args.x c.if-x.true
 
 pub returns-then-x-2 : goal.returns-then-x-2
 unfolding of_bits
-returns-then-x-2 c = at_zero c.args.x c.well-formed.0.1 c.if-x-2.true
+returns-then-x-2 c = at_zero c.args.x c.well_formed.0.1 c.if-x-2.true
 
 pub returns : goal.returns
 unfolding of_bits

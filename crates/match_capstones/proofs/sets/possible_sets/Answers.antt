@@ -16,11 +16,6 @@ use Rattle.match_capstones.proofs.Arrays.{holds_same}
 use Rattle.match_capstones.proofs.Next.{no_neighbor, flat_map_next, holds_nothing, holds_one}
 use Rattle.match_capstones.proofs.Count.{room_for_one}
 use Rattle.match_capstones.proofs.sets.possible_sets.Goals as goal
-use Rattle.match_capstones.proofs.sets.possible_sets.Tie as tie
-
--- the second list
-abbrev second : tie.Start invariant-loop decreases-loop → List Neighbor
-second s = take s.args.t2.n s.args.t2.all
 
 pub loop-i-init : goal.loop-i-init
 unfolding flat_map
@@ -29,51 +24,80 @@ loop-i-init c = (omega arith, omega arith, (λ _. refl), record { room_is = refl
 pub loop-i-preserved-then-j-vns : goal.loop-i-preserved-then-j-vns
 unfolding flat_map
 loop-i-preserved-then-j-vns c =
-    let next = flat_map_next (sets_of (second c.before.before.before)) c.args.t1.all c.loop-i.i no_neighbor (omega arith) in
+    let second : List Neighbor = take c.args.t2.n c.args.t2.all in
+    let next = flat_map_next (sets_of (second)) c.args.t1.all c.loop-i.i no_neighbor (omega arith) in
     (omega arith, omega arith, (λ _. refl), rw (add-one c.loop-i.i, next) (holds_same (rw c.if-j-vns.true at c.loop-i.invariant.3)))
 
 pub loop-i-preserved-then-not-is_viable : goal.loop-i-preserved-then-not-is_viable
 loop-i-preserved-then-not-is_viable c =
+    let second : List Neighbor = take c.args.t2.n c.args.t2.all in
     let hn = get_or c.args.t1.all c.loop-i.i no_neighbor in
     let vn = get_or c.args.t2.all c.loop-i.j no_neighbor in
-    let drops : viable (set_of hn vn).score ≡ false = ap viable (sym c.score_of-score.ensures) ∙ sym c.is_viable.ensures ∙ not-true _ c.if-not-is_viable.true in
-    let ahead = made (take c.loop-i.i c.args.t1.all) (second c.before.before.before.before.before.before.before.before) in (
+    let drops : viable (set_of hn vn).score ≡ false = ap viable (sym c.score_of-score.ensures) ∙ sym c.is_viable.ensures ∙ c.if-not-is_viable.true in
+    let ahead = made (take c.loop-i.i c.args.t1.all) (second) in (
       omega arith,
       omega arith,
       (λ high. absurd (omega arith)),
       holds_nothing (one_set hn) ahead c.args.t2.all c.loop-i.j no_neighbor c.loop-i.invariant.3 (omega arith) (rw drops),
     )
 
--- a set that is kept has a place
-fits : (c : tie.Else2 invariant-loop decreases-loop) → c.before.before.before.before.before.before.before.loop.n < 992
-fits c =
-    let s = c.before.before.before.before.before.before.before.before in
-    let l = c.before.before.before.before.before.before.before.loop in
-    let first = take l.i s.args.t1.all in
-    let part = take l.j s.args.t2.all in
-    let i-long : length first ≡ l.i = length-take-le l.i s.args.t1.all (omega arith) in
-    let v-long : length (second s) ≡ s.args.t2.n = length-take-le s.args.t2.n s.args.t2.all (omega arith) in
-    let j-long : length part ≡ l.j = length-take-le l.j s.args.t2.all (omega arith) in
-    omega (arith, l.invariant.3.count, room_for_one first (second s) part (get_or s.args.t1.all l.i no_neighbor) (omega arith) (omega arith))
-
 pub offset_bounds-all-n : goal.offset_bounds-all-n
-offset_bounds-all-n c = omega (arith, fits c)
+offset_bounds-all-n c =
+    let second : List Neighbor = take c.args.t2.n c.args.t2.all in
+    let fits : c.loop-i.n < 992 =
+    let first = take c.loop-i.i c.args.t1.all in
+    let part = take c.loop-i.j c.args.t2.all in
+    let i-long : length first ≡ c.loop-i.i = length-take-le c.loop-i.i c.args.t1.all (omega arith) in
+    let v-long : length (second) ≡ c.args.t2.n = length-take-le c.args.t2.n c.args.t2.all (omega arith) in
+    let j-long : length part ≡ c.loop-i.j = length-take-le c.loop-i.j c.args.t2.all (omega arith) in
+    omega (arith, c.loop-i.invariant.3.count, room_for_one first (second) part (get_or c.args.t1.all c.loop-i.i no_neighbor) (omega arith) (omega arith))
+    in
+    omega (arith, fits)
 
 pub bounds-all-n : goal.bounds-all-n
-bounds-all-n c = omega (arith, fits c)
+bounds-all-n c =
+    let second : List Neighbor = take c.args.t2.n c.args.t2.all in
+    let fits : c.loop-i.n < 992 =
+    let first = take c.loop-i.i c.args.t1.all in
+    let part = take c.loop-i.j c.args.t2.all in
+    let i-long : length first ≡ c.loop-i.i = length-take-le c.loop-i.i c.args.t1.all (omega arith) in
+    let v-long : length (second) ≡ c.args.t2.n = length-take-le c.args.t2.n c.args.t2.all (omega arith) in
+    let j-long : length part ≡ c.loop-i.j = length-take-le c.loop-i.j c.args.t2.all (omega arith) in
+    omega (arith, c.loop-i.invariant.3.count, room_for_one first (second) part (get_or c.args.t1.all c.loop-i.i no_neighbor) (omega arith) (omega arith))
+    in
+    omega (arith, fits)
 
 pub overflow_add-n : goal.overflow_add-n
-overflow_add-n c = omega (arith, fits c)
+overflow_add-n c =
+    let second : List Neighbor = take c.args.t2.n c.args.t2.all in
+    let fits : c.loop-i.n < 992 =
+    let first = take c.loop-i.i c.args.t1.all in
+    let part = take c.loop-i.j c.args.t2.all in
+    let i-long : length first ≡ c.loop-i.i = length-take-le c.loop-i.i c.args.t1.all (omega arith) in
+    let v-long : length (second) ≡ c.args.t2.n = length-take-le c.args.t2.n c.args.t2.all (omega arith) in
+    let j-long : length part ≡ c.loop-i.j = length-take-le c.loop-i.j c.args.t2.all (omega arith) in
+    omega (arith, c.loop-i.invariant.3.count, room_for_one first (second) part (get_or c.args.t1.all c.loop-i.i no_neighbor) (omega arith) (omega arith))
+    in
+    omega (arith, fits)
 
 pub loop-i-preserved : goal.loop-i-preserved
 loop-i-preserved c =
+    let second : List Neighbor = take c.args.t2.n c.args.t2.all in
+    let fits : c.loop-i.n < 992 =
+    let first = take c.loop-i.i c.args.t1.all in
+    let part = take c.loop-i.j c.args.t2.all in
+    let i-long : length first ≡ c.loop-i.i = length-take-le c.loop-i.i c.args.t1.all (omega arith) in
+    let v-long : length (second) ≡ c.args.t2.n = length-take-le c.args.t2.n c.args.t2.all (omega arith) in
+    let j-long : length part ≡ c.loop-i.j = length-take-le c.loop-i.j c.args.t2.all (omega arith) in
+    omega (arith, c.loop-i.invariant.3.count, room_for_one first (second) part (get_or c.args.t1.all c.loop-i.i no_neighbor) (omega arith) (omega arith))
+    in
     let hn = get_or c.args.t1.all c.loop-i.i no_neighbor in
     let vn = get_or c.args.t2.all c.loop-i.j no_neighbor in
-    let keeps : viable (set_of hn vn).score ≡ true = ap viable (sym c.score_of-score.ensures) ∙ sym c.is_viable.ensures ∙ not-false _ c.if-not-is_viable.false in (
+    let keeps : viable (set_of hn vn).score ≡ true = ap viable (sym c.score_of-score.ensures) ∙ sym c.is_viable.ensures ∙ c.if-not-is_viable.false in (
       omega arith,
       omega arith,
       (λ high. absurd (omega arith)),
-      rw c.score_of-score.ensures (holds_one (one_set hn) (made (take c.loop-i.i c.args.t1.all) (second c.before.before.before.before.before.before.before.before)) c.args.t2.all c.loop-i.j no_neighbor c.loop-i.invariant.3 (omega arith) (set_of hn vn) (fits c) (rw keeps)),
+      rw c.score_of-score.ensures (holds_one (one_set hn) (made (take c.loop-i.i c.args.t1.all) (second)) c.args.t2.all c.loop-i.j no_neighbor c.loop-i.invariant.3 (omega arith) (set_of hn vn) (fits) (rw keeps)),
     )
 
 pub returns : goal.returns

@@ -14,38 +14,25 @@ use Rattle.match_capstones.proofs.Floats.{and_both, and_second}
 use Rattle.match_capstones.proofs.Swap.{sooner, at}
 use Rattle.match_capstones.proofs.Rising.{Rising, rising_starts, rising_settles, moves, moves_ranked, rising_done}
 use Rattle.match_capstones.proofs.sort.sorted.Goals as goal
-use Rattle.match_capstones.proofs.sort.sorted.Tie as tie
 
 pub loop-i-init : goal.loop-i-init
 loop-i-init c = (omega arith, omega arith, c.requires.0, (λ _. refl), refl, rising_starts _)
 
--- a set moves up: it is not the first, and ranks before the one ahead of it
-rises : (c : tie.Then1 invariant-loop decreases-loop)
-    → let l = c.before.before.before.before.before.before.loop in
-    let k = c.before.before.before.before.ahead_of_lem.result in
-    (l.j ≡ suc k) × (sooner (at l.all l.j) (at l.all k) ≡ true)
-rises c =
-    let l = c.before.before.before.before.before.before.loop in
-    let k = c.before.before.before.before.ahead_of_lem.result in
-    let t = and_both (ltb 0 l.j) (sooner (at l.all l.j) (at l.all k)) (sym c.before.moves-up.ensures ∙ c.if1.true) in
-    (omega (arith, ltb-true 0 l.j t.0, c.before.before.before.before.ahead_of_lem.ensures), t.1)
-
--- it stays: it is the first, or does not rank before the one ahead of it
-stays : (c : tie.Else1 invariant-loop decreases-loop)
-    → let l = c.before.before.before.before.before.before.loop in
-    (k : ℕ) → suc k ≡ l.j → sooner (at l.all (suc k)) (at l.all k) ≡ false
-stays c k e =
-    let l = c.before.before.before.before.before.before.loop in
-    let up : c.before.before.before.before.ahead_of_lem.result ≡ k = omega (arith, c.before.before.before.before.ahead_of_lem.ensures) in
-    let t = and_second _ _ (sym c.before.moves-up.ensures ∙ c.if1.false) (lt-ltb 0 l.j (omega arith)) in
-    rw (e, ← up) t
-
 pub loop-i-smaller-then-moves_up : goal.loop-i-smaller-then-moves_up
-loop-i-smaller-then-moves_up c = omega (arith, (rises c).0)
+loop-i-smaller-then-moves_up c =
+    let rises : (c.loop-i.j ≡ suc c.ahead_of-k.result) × (sooner (at c.loop-i.all c.loop-i.j) (at c.loop-i.all c.ahead_of-k.result) ≡ true) =
+    let t = and_both (ltb 0 c.loop-i.j) (sooner (at c.loop-i.all c.loop-i.j) (at c.loop-i.all c.ahead_of-k.result)) (sym c.moves_up.ensures ∙ c.if-moves_up.true) in
+    (omega (arith, ltb-true 0 c.loop-i.j t.0, c.ahead_of-k.ensures), t.1)
+    in
+    omega (arith, (rises).0)
 
 pub loop-i-preserved-then-moves_up : goal.loop-i-preserved-then-moves_up
 loop-i-preserved-then-moves_up c =
-    let up = rises c in (
+    let rises : (c.loop-i.j ≡ suc c.ahead_of-k.result) × (sooner (at c.loop-i.all c.loop-i.j) (at c.loop-i.all c.ahead_of-k.result) ≡ true) =
+    let t = and_both (ltb 0 c.loop-i.j) (sooner (at c.loop-i.all c.loop-i.j) (at c.loop-i.all c.ahead_of-k.result)) (sym c.moves_up.ensures ∙ c.if-moves_up.true) in
+    (omega (arith, ltb-true 0 c.loop-i.j t.0, c.ahead_of-k.ensures), t.1)
+    in
+    let up = rises in (
       omega arith,
       omega (arith, up.0),
       simp length-set c.loop-i.invariant.2,
@@ -56,7 +43,12 @@ loop-i-preserved-then-moves_up c =
 
 pub loop-i-preserved : goal.loop-i-preserved
 loop-i-preserved c =
-    (omega arith, omega arith, c.loop-i.invariant.2, (λ _. refl), c.loop-i.invariant.4, rw add-one (rising_settles c.loop-i.all c.loop-i.i c.loop-i.j c.loop-i.invariant.5 (stays c)))
+    let stays : (k : ℕ) → suc k ≡ c.loop-i.j → sooner (at c.loop-i.all (suc k)) (at c.loop-i.all k) ≡ false = λ k e.
+    let up : c.ahead_of-k.result ≡ k = omega (arith, c.ahead_of-k.ensures) in
+    let t = and_second _ _ (sym c.moves_up.ensures ∙ c.if-moves_up.false) (lt-ltb 0 c.loop-i.j (omega arith)) in
+    rw (e, ← up) t
+    in
+    (omega arith, omega arith, c.loop-i.invariant.2, (λ _. refl), c.loop-i.invariant.4, rw add-one (rising_settles c.loop-i.all c.loop-i.i c.loop-i.j c.loop-i.invariant.5 (stays)))
 
 pub returns : goal.returns
 returns c =

@@ -9,31 +9,31 @@ use borrow.Author.Tests.{eq-eqb, ne_eqb, not-true, not-false}
 use Rattle.picture.specs.Sides.{side}
 use Rattle.picture.proofs.Passed.{side_true}
 use Rattle.picture.proofs.ladder.sides.Goals as goal
-use Rattle.picture.proofs.ladder.sides.Tie as tie
 
 pub returns-then-not-is_side : goal.returns-then-not-is_side
-returns-then-not-is_side c = rw (sym c.is_side.ensures ∙ not-true _ c.if-not-is_side.true)
-
--- the width is a side, from the first test
-wide : (c : tie.Else-not-is_side) → side c.args.width ≡ true
-wide c = sym c.is_side.ensures ∙ not-false _ c.if-not-is_side.false
-
-tall : (c : tie.Else-not-is_side-2) → side c.args.height ≡ true
-tall c = sym c.is_side-2.ensures ∙ not-false _ c.if-not-is_side-2.false
+returns-then-not-is_side c = rw (sym c.is_side.ensures ∙ c.if-not-is_side.true)
 
 pub returns-then-not-is_side-2 : goal.returns-then-not-is_side-2
-returns-then-not-is_side-2 c = rw (wide c.before.before, sym c.is_side-2.ensures ∙ not-true _ c.if-not-is_side-2.true)
+returns-then-not-is_side-2 c =
+    let wide : side c.args.width ≡ true = sym c.is_side.ensures ∙ c.if-not-is_side.false in
+    rw (wide, sym c.is_side-2.ensures ∙ c.if-not-is_side-2.true)
 
 pub overflow_mul-width : goal.overflow_mul-width
 overflow_mul-width c =
-    let w = side_true c.args.width (wide c.before.before) in
-    let h = side_true c.args.height (tall c) in
+    let wide : side c.args.width ≡ true = sym c.is_side.ensures ∙ c.if-not-is_side.false in
+    let tall : side c.args.height ≡ true = sym c.is_side-2.ensures ∙ c.if-not-is_side-2.false in
+    let w = side_true c.args.width (wide) in
+    let h = side_true c.args.height (tall) in
     omega (arith, mul-le-mul w.1 h.1)
 
 pub returns-then-len-width : goal.returns-then-len-width
 returns-then-len-width c =
-    rw (wide c.before.before.before, tall c.before, ne_eqb c.args.len (c.args.width * c.args.height) c.if-len-width.true)
+    let wide : side c.args.width ≡ true = sym c.is_side.ensures ∙ c.if-not-is_side.false in
+    let tall : side c.args.height ≡ true = sym c.is_side-2.ensures ∙ c.if-not-is_side-2.false in
+    rw (wide, tall, ne_eqb c.args.len (c.args.width * c.args.height) c.if-len-width.true)
 
 pub returns : goal.returns
 returns c =
-    rw (wide c.before.before.before, tall c.before, eq-eqb c.args.len (c.args.width * c.args.height) c.if-len-width.false)
+    let wide : side c.args.width ≡ true = sym c.is_side.ensures ∙ c.if-not-is_side.false in
+    let tall : side c.args.height ≡ true = sym c.is_side-2.ensures ∙ c.if-not-is_side-2.false in
+    rw (wide, tall, eq-eqb c.args.len (c.args.width * c.args.height) c.if-len-width.false)

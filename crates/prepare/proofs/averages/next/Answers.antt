@@ -4,13 +4,13 @@ use native.Mathlib.Omega.{arith}
 use native.Mathlib.Nat.{mul-le-mul}
 use borrow.Author.Rules.{rules}
 use Rattle.prepare.proofs.averages.next.Goals as goal
-use Rattle.prepare.proofs.averages.next.Tie as tie
-
-product : (c : tie.Start) → c.args.average * c.args.k ≤ 65535 * 4294967295
-product c = mul-le-mul {n₂ = 65535} {m₂ = 4294967295} (omega arith) (omega arith)
 
 pub overflow_mul-result : goal.overflow_mul-result
-overflow_mul-result c = omega (arith, product c)
+overflow_mul-result c =
+    let product : c.args.average * c.args.k ≤ 65535 * 4294967295 = mul-le-mul {n₂ = 65535} {m₂ = 4294967295} (omega arith) (omega arith) in
+    omega (arith, product)
 
 pub overflow_add-result : goal.overflow_add-result
-overflow_add-result c = omega (arith, product c)
+overflow_add-result c =
+    let product : c.args.average * c.args.k ≤ 65535 * 4294967295 = mul-le-mul {n₂ = 65535} {m₂ = 4294967295} (omega arith) (omega arith) in
+    omega (arith, product)

@@ -14,12 +14,11 @@ pub overflow_add-sum : goal.overflow_add-sum
 overflow_add-sum c = record { fits = c.requires.2.low c.loop-x.x (omega arith) }
 
 pub loop-x-preserved : goal.loop-x-preserved
-loop-x-preserved c =
-    (
-      sym (shading_goes_on c.args.s (length c.args.row.now) c.loop-x.row c.args.lefts.now c.args.rights.now c.loop-x.x c.shade.result c.requires.2.left_room c.requires.2.right_room (omega arith) (omega arith) c.shade.ensures) ∙ c.loop-x.invariant.0,
-      simp length-set c.loop-x.invariant.1,
-      omega arith,
-    )
+loop-x-preserved c = (
+  sym (shading_goes_on c.args.s (length c.args.row.now) c.loop-x.row c.args.lefts.now c.args.rights.now c.loop-x.x c.shade.result c.requires.2.left_room c.requires.2.right_room (omega arith) (omega arith) c.shade.ensures) ∙ c.loop-x.invariant.0,
+  simp length-set c.loop-x.invariant.1,
+  omega arith,
+)
 
 pub returns : goal.returns
 returns c =

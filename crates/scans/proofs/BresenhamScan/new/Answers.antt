@@ -11,71 +11,86 @@ use Rattle.refusals.specs.Limits.{farthest}
 use Rattle.sizes.proofs.Size.{size_sub, read_back}
 use Rattle.scans.specs.Scan.{scan_of}
 use Rattle.scans.proofs.BresenhamScan.new.Goals as goal
-use Rattle.scans.proofs.BresenhamScan.new.Tie as tie
-
--- each coordinate as it is read
-module _ (s : tie.Start) where
-  px : to_z w32 (of_z w32 s.args.from.x) ≡ s.args.from.x
-  px = search rules
-
-  py : to_z w32 (of_z w32 s.args.from.y) ≡ s.args.from.y
-  py = search rules
-
-  qx : to_z w32 (of_z w32 s.args.to.x) ≡ s.args.to.x
-  qx = search rules
-
-  qy : to_z w32 (of_z w32 s.args.to.y) ≡ s.args.to.y
-  qy = search rules
-
-  across_low : nat_abs (s.args.to.x -ℤ s.args.from.x) ≤ farthest + farthest
-  across_low = let p = s.pre.0 in let q = s.pre.1 in let h = size_sub s.args.to.x s.args.from.x in omega arith
-
-  down_low : nat_abs (s.args.to.y -ℤ s.args.from.y) ≤ farthest + farthest
-  down_low = let p = s.pre.0 in let q = s.pre.1 in let h = size_sub s.args.to.y s.args.from.y in omega arith
 
 pub diff-across-requires : goal.diff-across-requires
 diff-across-requires c =
-    rw (qx c.before.before, px c.before.before) (omega arith)
-
-across_is : (c : tie.After-diff-across) → to_z w32 (of_z w32 c.diff-across.result) ≡ c.args.to.x -ℤ c.args.from.x
-across_is c = read_back c.diff-across.result c.diff-across.type_inv ∙ rw (qx c.before.before.before, px c.before.before.before) at c.diff-across.ensures
+    let qx : to_z w32 (of_z w32 c.args.to.x) ≡ c.args.to.x = search rules in
+    let px : to_z w32 (of_z w32 c.args.from.x) ≡ c.args.from.x = search rules in
+    rw (qx, px) (omega arith)
 
 pub diff-down-requires : goal.diff-down-requires
 diff-down-requires c =
-    rw (qy c.before.before.before.before.before, py c.before.before.before.before.before) (omega arith)
-
-module _ (c : tie.After-diff2) where
-  abbrev start : tie.Start
-  start = c.before.before.before.before.before
-
-  across : to_z w32 (of_z w32 c.diff-across.result) ≡ start.args.to.x -ℤ start.args.from.x
-  across = across_is c.before.before
-
-  down : to_z w32 (of_z w32 c.diff2.result) ≡ start.args.to.y -ℤ start.args.from.y
-  down = read_back c.diff2.result c.diff2.type-inv ∙ rw (qy start, py start) at c.diff2.ensures
+    let qy : to_z w32 (of_z w32 c.args.to.y) ≡ c.args.to.y = search rules in
+    let py : to_z w32 (of_z w32 c.args.from.y) ≡ c.args.from.y = search rules in
+    rw (qy, py) (omega arith)
 
 pub unsigned_abs-w-requires : goal.unsigned_abs-w-requires
-unsigned_abs-w-requires c = rw (across c) (let h = across_low (start c) in omega arith)
+unsigned_abs-w-requires c =
+    let qx : to_z w32 (of_z w32 c.args.to.x) ≡ c.args.to.x = search rules in
+    let px : to_z w32 (of_z w32 c.args.from.x) ≡ c.args.from.x = search rules in
+    let across_is : to_z w32 (of_z w32 c.diff-across.result) ≡ c.args.to.x -ℤ c.args.from.x = read_back c.diff-across.result c.diff-across.type_inv ∙ rw (qx, px) at c.diff-across.ensures in
+    let across : to_z w32 (of_z w32 c.diff-across.result) ≡ c.args.to.x -ℤ c.args.from.x = across_is in
+    let across_low : nat_abs (c.args.to.x -ℤ c.args.from.x) ≤ farthest + farthest = let h = size_sub c.args.to.x c.args.from.x in omega arith in
+    rw (across) (let h = across_low in omega arith)
 
 pub unsigned_abs-h-requires : goal.unsigned_abs-h-requires
-unsigned_abs-h-requires c = rw (down c.before) (let h = down_low (start c.before) in omega arith)
+unsigned_abs-h-requires c =
+    let qy : to_z w32 (of_z w32 c.args.to.y) ≡ c.args.to.y = search rules in
+    let py : to_z w32 (of_z w32 c.args.from.y) ≡ c.args.from.y = search rules in
+    let down : to_z w32 (of_z w32 c.diff-down.result) ≡ c.args.to.y -ℤ c.args.from.y = read_back c.diff-down.result c.diff-down.type_inv ∙ rw (qy, py) at c.diff-down.ensures in
+    let down_low : nat_abs (c.args.to.y -ℤ c.args.from.y) ≤ farthest + farthest = let h = size_sub c.args.to.y c.args.from.y in omega arith in
+    rw (down) (let h = down_low in omega arith)
 
 pub start-requires : goal.start-requires
-start-requires c = {- RECORD fact_1 fact_2 -}
-    rw (across c.before.before.before, down c.before.before.before) (across_low (start c.before.before.before), down_low (start c.before.before.before))
+start-requires c =
+    let qx : to_z w32 (of_z w32 c.args.to.x) ≡ c.args.to.x = search rules in
+    let px : to_z w32 (of_z w32 c.args.from.x) ≡ c.args.from.x = search rules in
+    let across_is : to_z w32 (of_z w32 c.diff-across.result) ≡ c.args.to.x -ℤ c.args.from.x = read_back c.diff-across.result c.diff-across.type_inv ∙ rw (qx, px) at c.diff-across.ensures in
+    let across : to_z w32 (of_z w32 c.diff-across.result) ≡ c.args.to.x -ℤ c.args.from.x = across_is in
+    let qy : to_z w32 (of_z w32 c.args.to.y) ≡ c.args.to.y = search rules in
+    let py : to_z w32 (of_z w32 c.args.from.y) ≡ c.args.from.y = search rules in
+    let down : to_z w32 (of_z w32 c.diff-down.result) ≡ c.args.to.y -ℤ c.args.from.y = read_back c.diff-down.result c.diff-down.type_inv ∙ rw (qy, py) at c.diff-down.ensures in
+    let across_low : nat_abs (c.args.to.x -ℤ c.args.from.x) ≤ farthest + farthest = let h = size_sub c.args.to.x c.args.from.x in omega arith in
+    let down_low : nat_abs (c.args.to.y -ℤ c.args.from.y) ≤ farthest + farthest = let h = size_sub c.args.to.y c.args.from.y in omega arith in
+    {- RECORD fact_1 fact_2 -}
+    rw (across, down) (across_low, down_low)
 
 pub returns-then-w-h : goal.returns-then-w-h
 unfolding scan_of
 returns-then-w-h c =
-    let w = rw (c.unsigned_abs-w.ensures, c.unsigned_abs-h.ensures, across c.before.before.before.before, down c.before.before.before.before) at c.if-w-h.true in
-    rw (c.start.ensures, across c.before.before.before.before, down c.before.before.before.before, lt-ltb _ _ w)
+    let qx : to_z w32 (of_z w32 c.args.to.x) ≡ c.args.to.x = search rules in
+    let px : to_z w32 (of_z w32 c.args.from.x) ≡ c.args.from.x = search rules in
+    let across_is : to_z w32 (of_z w32 c.diff-across.result) ≡ c.args.to.x -ℤ c.args.from.x = read_back c.diff-across.result c.diff-across.type_inv ∙ rw (qx, px) at c.diff-across.ensures in
+    let across : to_z w32 (of_z w32 c.diff-across.result) ≡ c.args.to.x -ℤ c.args.from.x = across_is in
+    let qy : to_z w32 (of_z w32 c.args.to.y) ≡ c.args.to.y = search rules in
+    let py : to_z w32 (of_z w32 c.args.from.y) ≡ c.args.from.y = search rules in
+    let down : to_z w32 (of_z w32 c.diff-down.result) ≡ c.args.to.y -ℤ c.args.from.y = read_back c.diff-down.result c.diff-down.type_inv ∙ rw (qy, py) at c.diff-down.ensures in
+    let w = rw (c.unsigned_abs-w.ensures, c.unsigned_abs-h.ensures, across, down) at c.if-w-h.true in
+    rw (c.start.ensures, across, down, lt-ltb _ _ w)
 
 pub start-requires-2 : goal.start-requires-2
-start-requires-2 c = {- RECORD fact_1 fact_2 -}
-    rw (across c.before.before.before, down c.before.before.before) (down_low (start c.before.before.before), across_low (start c.before.before.before))
+start-requires-2 c =
+    let qx : to_z w32 (of_z w32 c.args.to.x) ≡ c.args.to.x = search rules in
+    let px : to_z w32 (of_z w32 c.args.from.x) ≡ c.args.from.x = search rules in
+    let across_is : to_z w32 (of_z w32 c.diff-across.result) ≡ c.args.to.x -ℤ c.args.from.x = read_back c.diff-across.result c.diff-across.type_inv ∙ rw (qx, px) at c.diff-across.ensures in
+    let across : to_z w32 (of_z w32 c.diff-across.result) ≡ c.args.to.x -ℤ c.args.from.x = across_is in
+    let qy : to_z w32 (of_z w32 c.args.to.y) ≡ c.args.to.y = search rules in
+    let py : to_z w32 (of_z w32 c.args.from.y) ≡ c.args.from.y = search rules in
+    let down : to_z w32 (of_z w32 c.diff-down.result) ≡ c.args.to.y -ℤ c.args.from.y = read_back c.diff-down.result c.diff-down.type_inv ∙ rw (qy, py) at c.diff-down.ensures in
+    let down_low : nat_abs (c.args.to.y -ℤ c.args.from.y) ≤ farthest + farthest = let h = size_sub c.args.to.y c.args.from.y in omega arith in
+    let across_low : nat_abs (c.args.to.x -ℤ c.args.from.x) ≤ farthest + farthest = let h = size_sub c.args.to.x c.args.from.x in omega arith in
+    {- RECORD fact_1 fact_2 -}
+    rw (across, down) (down_low, across_low)
 
 pub returns : goal.returns
 unfolding scan_of
 returns c =
-    let w = rw (c.unsigned_abs-w.ensures, c.unsigned_abs-h.ensures, across c.before.before.before.before, down c.before.before.before.before) at c.if-w-h.false in
-    rw (c.start-2.ensures, across c.before.before.before.before, down c.before.before.before.before, le-ltb _ _ w)
+    let qx : to_z w32 (of_z w32 c.args.to.x) ≡ c.args.to.x = search rules in
+    let px : to_z w32 (of_z w32 c.args.from.x) ≡ c.args.from.x = search rules in
+    let across_is : to_z w32 (of_z w32 c.diff-across.result) ≡ c.args.to.x -ℤ c.args.from.x = read_back c.diff-across.result c.diff-across.type_inv ∙ rw (qx, px) at c.diff-across.ensures in
+    let across : to_z w32 (of_z w32 c.diff-across.result) ≡ c.args.to.x -ℤ c.args.from.x = across_is in
+    let qy : to_z w32 (of_z w32 c.args.to.y) ≡ c.args.to.y = search rules in
+    let py : to_z w32 (of_z w32 c.args.from.y) ≡ c.args.from.y = search rules in
+    let down : to_z w32 (of_z w32 c.diff-down.result) ≡ c.args.to.y -ℤ c.args.from.y = read_back c.diff-down.result c.diff-down.type_inv ∙ rw (qy, py) at c.diff-down.ensures in
+    let w = rw (c.unsigned_abs-w.ensures, c.unsigned_abs-h.ensures, across, down) at c.if-w-h.false in
+    rw (c.start-2.ensures, across, down, le-ltb _ _ w)

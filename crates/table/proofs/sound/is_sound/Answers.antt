@@ -21,10 +21,10 @@ pub returns-then-not-once_each : goal.returns-then-not-once_each
 unfolding sound_test
 returns-then-not-once_each c =
     let few : c.args.t.n ≤ 251 = omega arith in
-    rw (le-leb _ 251 few, sym c.once_each.ensures ∙ not-true _ c.if-not-once_each.true)
+    rw (le-leb _ 251 few, sym c.once_each.ensures ∙ c.if-not-once_each.true)
 
 pub returns : goal.returns
 unfolding sound_test
 returns c =
     let few : c.args.t.n ≤ 251 = omega arith in
-    rw (le-leb _ 251 few, sym c.once_each.ensures ∙ not-false _ c.if-not-once_each.false) c.all_inside.ensures
+    rw (le-leb _ 251 few, sym c.once_each.ensures ∙ c.if-not-once_each.false) c.all_inside.ensures

@@ -8,11 +8,6 @@ use Rattle.scans.proofs.Steps.{new_good, step_seen}
 use Rattle.timing.proofs.Counting.{Counting, none_counted, one_counted, all_counted}
 use borrow.Author.Rules.{rules}
 use Rattle.timing.proofs.scan.timing_scan.Goals as goal
-use Rattle.timing.proofs.scan.timing_scan.Tie as tie
-
--- the step saw a point, and left a scan
-saw : (c : tie.After-step2 invariant-loop decreases-loop) → step_of c.before.before.before.loop.scan ≡ Seen c.step2.given.0.0 c.step2.given.0.1.0
-saw c = sym c.before.before.step.ensures ∙ c.step2.given.1
 
 pub loop-p-init : goal.loop-p-init
 loop-p-init c =
@@ -27,14 +22,17 @@ returns-in_default c =
 
 pub overflow_add-count : goal.overflow_add-count
 overflow_add-count c =
-    let k = one_counted _ _ _ c.loop-p.invariant (saw c.before.before.before) c.get_pixel_at_point-pixel.ensures c.differ-count.ensures in
+    let saw : step_of c.loop-p.scan ≡ Seen c.in-Seen.p c.in-Seen.next = sym c.step-step.ensures ∙ c.in-Seen.is in
+    let k = one_counted _ _ _ c.loop-p.invariant (saw) c.get_pixel_at_point-pixel.ensures c.differ-count.ensures in
     record { fits = omega (arith, k.few, k.good.d_low, k.good.i_low) }
 
 pub loop-p-smaller : goal.loop-p-smaller
 loop-p-smaller c =
-    let next = step_seen _ _ _ (saw c.before.before.before) in
+    let saw : step_of c.loop-p.scan ≡ Seen c.in-Seen.p c.in-Seen.next = sym c.step-step.ensures ∙ c.in-Seen.is in
+    let next = step_seen _ _ _ (saw) in
     omega arith
 
 pub loop-p-preserved : goal.loop-p-preserved
 loop-p-preserved c =
-    one_counted _ _ _ c.loop-p.invariant (saw c.before.before.before) c.get_pixel_at_point-pixel.ensures c.differ-count.ensures
+    let saw : step_of c.loop-p.scan ≡ Seen c.in-Seen.p c.in-Seen.next = sym c.step-step.ensures ∙ c.in-Seen.is in
+    one_counted _ _ _ c.loop-p.invariant (saw) c.get_pixel_at_point-pixel.ensures c.differ-count.ensures

@@ -24,7 +24,7 @@ pub overflow_add-at : goal.overflow_add-at
 overflow_add-at c =
     let room = listing_room c.loop-sp.invariant c.loop-sp-test.true in
     let same = listing_length c.loop-sp.invariant in
-    record { fits = omega (arith, c.well-formed) }
+    record { fits = omega (arith, c.well_formed) }
 
 pub loop-sp-smaller-in-Met : goal.loop-sp-smaller-in-Met
 loop-sp-smaller-in-Met c =

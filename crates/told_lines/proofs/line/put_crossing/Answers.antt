@@ -9,20 +9,6 @@ use Rattle.told.proofs.Tell.{tell_first, tell_next}
 use Rattle.told.proofs.Reach.{pixel}
 use borrow.Author.Rules.{rules}
 use Rattle.told_lines.proofs.line.put_crossing.Goals as goal
-use Rattle.told_lines.proofs.line.put_crossing.Tie as tie
-
--- a test that was passed, in the definition's words
-in_p0 : (c : tie.Else-leaves) → leaves c.args.p0 (pos 0) (pos 799) ≡ false
-in_p0 c = rw c.leaves.ensures at c.if-leaves.false
-
-in_p1 : (c : tie.Else-leaves-2) → leaves c.args.p1 (pos 0) (pos 799) ≡ false
-in_p1 c = rw c.leaves-2.ensures at c.if-leaves-2.false
-
-in_q0 : (c : tie.Else-leaves-3) → leaves c.args.q0 (pos 0) (pos 799) ≡ false
-in_q0 c = rw c.leaves-3.ensures at c.if-leaves-3.false
-
-in_q1 : (c : tie.Else-leaves-4) → leaves c.args.q1 (pos 0) (pos 799) ≡ false
-in_q1 c = rw c.leaves-4.ensures at c.if-leaves-4.false
 
 pub returns-then-leaves : goal.returns-then-leaves
 unfolding crossValues
@@ -31,25 +17,39 @@ returns-then-leaves c = tell_first Far _ _ (rw c.leaves.ensures at c.if-leaves.t
 pub returns-then-leaves-2 : goal.returns-then-leaves-2
 unfolding crossValues
 returns-then-leaves-2 c =
-    tell_next Far (in_p0 c.before.before) (tell_first Far _ _ (rw c.leaves-2.ensures at c.if-leaves-2.true))
+    let in_p0 : leaves c.args.p0 (pos 0) (pos 799) ≡ false = rw c.leaves.ensures at c.if-leaves.false in
+    tell_next Far (in_p0) (tell_first Far _ _ (rw c.leaves-2.ensures at c.if-leaves-2.true))
 
 pub returns-then-leaves-3 : goal.returns-then-leaves-3
 unfolding crossValues
 returns-then-leaves-3 c =
-    tell_next Far (in_p0 c.before.before.before.before) (tell_next Far (in_p1 c.before.before) (tell_first Far _ _ (rw c.leaves-3.ensures at c.if-leaves-3.true)))
+    let in_p0 : leaves c.args.p0 (pos 0) (pos 799) ≡ false = rw c.leaves.ensures at c.if-leaves.false in
+    let in_p1 : leaves c.args.p1 (pos 0) (pos 799) ≡ false = rw c.leaves-2.ensures at c.if-leaves-2.false in
+    tell_next Far (in_p0) (tell_next Far (in_p1) (tell_first Far _ _ (rw c.leaves-3.ensures at c.if-leaves-3.true)))
 
 pub returns-then-leaves-4 : goal.returns-then-leaves-4
 unfolding crossValues
 returns-then-leaves-4 c =
+    let in_p0 : leaves c.args.p0 (pos 0) (pos 799) ≡ false = rw c.leaves.ensures at c.if-leaves.false in
+    let in_p1 : leaves c.args.p1 (pos 0) (pos 799) ≡ false = rw c.leaves-2.ensures at c.if-leaves-2.false in
+    let in_q0 : leaves c.args.q0 (pos 0) (pos 799) ≡ false = rw c.leaves-3.ensures at c.if-leaves-3.false in
     let far = rw c.leaves-4.ensures at c.if-leaves-4.true in
-    tell_next Far (in_p0 c.before.before.before.before.before.before) (tell_next Far (in_p1 c.before.before.before.before) (tell_next Far (in_q0 c.before.before) (tell_first Far _ _ far)))
+    tell_next Far (in_p0) (tell_next Far (in_p1) (tell_next Far (in_q0) (tell_first Far _ _ far)))
 
 pub line_intersect-requires : goal.line_intersect-requires
 line_intersect-requires c =
-    record { fact_1 = pixel _ (in_p0 c.before.before.before.before.before.before); fact_2 = pixel _ (in_p1 c.before.before.before.before); fact_3 = pixel _ (in_q0 c.before.before); fact_4 = pixel _ (in_q1 c) }
+    let in_p0 : leaves c.args.p0 (pos 0) (pos 799) ≡ false = rw c.leaves.ensures at c.if-leaves.false in
+    let in_p1 : leaves c.args.p1 (pos 0) (pos 799) ≡ false = rw c.leaves-2.ensures at c.if-leaves-2.false in
+    let in_q0 : leaves c.args.q0 (pos 0) (pos 799) ≡ false = rw c.leaves-3.ensures at c.if-leaves-3.false in
+    let in_q1 : leaves c.args.q1 (pos 0) (pos 799) ≡ false = rw c.leaves-4.ensures at c.if-leaves-4.false in
+    record { fact_1 = pixel _ (in_p0); fact_2 = pixel _ (in_p1); fact_3 = pixel _ (in_q0); fact_4 = pixel _ (in_q1) }
 
 pub returns : goal.returns
 unfolding crossValues
 returns c =
+    let in_p0 : leaves c.args.p0 (pos 0) (pos 799) ≡ false = rw c.leaves.ensures at c.if-leaves.false in
+    let in_p1 : leaves c.args.p1 (pos 0) (pos 799) ≡ false = rw c.leaves-2.ensures at c.if-leaves-2.false in
+    let in_q0 : leaves c.args.q0 (pos 0) (pos 799) ≡ false = rw c.leaves-3.ensures at c.if-leaves-3.false in
+    let in_q1 : leaves c.args.q1 (pos 0) (pos 799) ≡ false = rw c.leaves-4.ensures at c.if-leaves-4.false in
     let told = rw c.line_intersect.ensures at c.put_meet.ensures in
-    tell_next Far (in_p0 c.before.before.before.before.before.before.before.before.before.before) (tell_next Far (in_p1 c.before.before.before.before.before.before.before.before) (tell_next Far (in_q0 c.before.before.before.before.before.before) (tell_next Far (in_q1 c.before.before.before.before) told)))
+    tell_next Far (in_p0) (tell_next Far (in_p1) (tell_next Far (in_q0) (tell_next Far (in_q1) told)))

@@ -13,13 +13,7 @@ use Rattle.told_lines.proofs.scan.put_points.Reads as reads
 use Rattle.told_lines.proofs.scan.put_points.Lts as lts
 use Rattle.told.proofs.put.numbers_at.Reads as numbers-at-reads
 use Rattle.scans.proofs.BresenhamScan.step.Reads as step-reads
-
 use Rattle.told_lines.proofs.scan.put_points.Goals as goal
-use Rattle.told_lines.proofs.scan.put_points.Tie as tie
-
--- the step saw a point, and left a scan
-saw : (c : tie.After-step2 invariant-loop decreases-loop) → step_of c.before.before.before.loop.scan ≡ Seen c.step2.given.0.0 c.step2.given.0.1.0
-saw c = sym c.before.before.step.ensures ∙ c.step2.given.1
 
 pub loop-p-init : goal.loop-p-init
 loop-p-init c = none_written _ _ c.requires.fact_1
@@ -36,22 +30,26 @@ returns-in_default c =
 
 pub numbers_at-requires : goal.numbers_at-requires
 numbers_at-requires c =
-    two_left c.loop-p.invariant (saw c.before.before.before.before) c.requires.fact_2
+    let saw : step_of c.loop-p.scan ≡ Seen c.in-Seen.p c.in-Seen.next = sym c.step-step.ensures ∙ c.in-Seen.is in
+    two_left c.loop-p.invariant (saw) c.requires.fact_2
 
 pub overflow_add-at : goal.overflow_add-at
 overflow_add-at c =
-    let room = two_left c.loop-p.invariant (saw c.before.before.before.before.before.before) c.requires.fact_2 in
+    let saw : step_of c.loop-p.scan ≡ Seen c.in-Seen.p c.in-Seen.next = sym c.step-step.ensures ∙ c.in-Seen.is in
+    let room = two_left c.loop-p.invariant (saw) c.requires.fact_2 in
     let same = same_room c.loop-p.invariant c.requires.fact_2 in
-    record { fits = omega (arith, c.well-formed) }
+    record { fits = omega (arith, c.well_formed) }
 
 pub loop-p-smaller : goal.loop-p-smaller
 loop-p-smaller c =
-    let next = step_seen _ _ _ (saw c.before.before.before.before.before.before) in
+    let saw : step_of c.loop-p.scan ≡ Seen c.in-Seen.p c.in-Seen.next = sym c.step-step.ensures ∙ c.in-Seen.is in
+    let next = step_seen _ _ _ (saw) in
     omega arith
 
 pub loop-p-preserved : goal.loop-p-preserved
 loop-p-preserved c =
+    let saw : step_of c.loop-p.scan ≡ Seen c.in-Seen.p c.in-Seen.next = sym c.step-step.ensures ∙ c.in-Seen.is in
     let same_x : to_z w32 (of_z w32 c.in-Seen.p.x) ≡ c.in-Seen.p.x = search rules in
     let same_y : to_z w32 (of_z w32 c.in-Seen.p.y) ≡ c.in-Seen.p.y = search rules in
     let stored = rw (same_x, same_y) c.before.before.before.before.before.before c.numbers_at.ensures in
-    rw stored (more_written c.loop-p.invariant (saw c.before.before.before.before.before.before) c.requires.fact_2)
+    rw stored (more_written c.loop-p.invariant (saw) c.requires.fact_2)

@@ -13,7 +13,6 @@ use Rattle.told_lines.proofs.scan.put_points.Reads as reads
 use Rattle.told_lines.proofs.scan.put_points.Lts as lts
 use Rattle.told.proofs.put.numbers_at.Reads as numbers-at-reads
 use Rattle.scans.proofs.BresenhamScan.step.Reads as step-reads
-
 use Rattle.told_lines.proofs.scan.put_points.Given as goal
 
 abbrev pub invariant-loop-p : goal.invariant-loop-p

@@ -11,14 +11,6 @@ use Rattle.told.proofs.Reach.{reached}
 use Rattle.told_lines.proofs.Scanned.{scan_length}
 use borrow.Author.Rules.{rules}
 use Rattle.told_lines.proofs.scan.put_scan.Goals as goal
-use Rattle.told_lines.proofs.scan.put_scan.Tie as tie
-
--- a test that was passed, in the definition's words
-near_from : (c : tie.Else-leaves) → leaves c.args.from (negsuc 9999) (pos 10000) ≡ false
-near_from c = rw c.leaves.ensures at c.if-leaves.false
-
-near_to : (c : tie.Else-leaves-2) → leaves c.args.to (negsuc 9999) (pos 10000) ≡ false
-near_to c = rw c.leaves-2.ensures at c.if-leaves-2.false
 
 pub returns-then-leaves : goal.returns-then-leaves
 unfolding scanAnswer
@@ -27,25 +19,36 @@ returns-then-leaves c = tell_first Far _ _ (rw c.leaves.ensures at c.if-leaves.t
 pub returns-then-leaves-2 : goal.returns-then-leaves-2
 unfolding scanAnswer
 returns-then-leaves-2 c =
-    tell_next Far (near_from c.before.before) (tell_first Far _ _ (rw c.leaves-2.ensures at c.if-leaves-2.true))
+    let near_from : leaves c.args.from (negsuc 9999) (pos 10000) ≡ false = rw c.leaves.ensures at c.if-leaves.false in
+    tell_next Far (near_from) (tell_first Far _ _ (rw c.leaves-2.ensures at c.if-leaves-2.true))
 
 pub new-scan-requires : goal.new-scan-requires
-new-scan-requires c = record { fact_1 = reached _ (near_from c.before.before); fact_2 = reached _ (near_to c) }
+new-scan-requires c =
+    let near_from : leaves c.args.from (negsuc 9999) (pos 10000) ≡ false = rw c.leaves.ensures at c.if-leaves.false in
+    let near_to : leaves c.args.to (negsuc 9999) (pos 10000) ≡ false = rw c.leaves-2.ensures at c.if-leaves-2.false in
+    record { fact_1 = reached _ (near_from); fact_2 = reached _ (near_to) }
 
 pub returns-then-out-steps : goal.returns-then-out-steps
 unfolding scanAnswer
 returns-then-out-steps c =
+    let near_from : leaves c.args.from (negsuc 9999) (pos 10000) ≡ false = rw c.leaves.ensures at c.if-leaves.false in
+    let near_to : leaves c.args.to (negsuc 9999) (pos 10000) ≡ false = rw c.leaves-2.ensures at c.if-leaves-2.false in
     let few = rw (c.new-scan.ensures, ← scan_length c.args.from c.args.to) at c.if-out-steps.true in
-    tell_next Far (near_from c.before.before.before.before.before) (tell_next Far (near_to c.before.before.before) (tell_short _ _ few))
+    tell_next Far (near_from) (tell_next Far (near_to) (tell_short _ _ few))
 
 pub put_points-requires : goal.put_points-requires
-put_points-requires c = {- RECORD fact_1 fact_2 -}
+put_points-requires c =
+    let near_from : leaves c.args.from (negsuc 9999) (pos 10000) ≡ false = rw c.leaves.ensures at c.if-leaves.false in
+    let near_to : leaves c.args.to (negsuc 9999) (pos 10000) ≡ false = rw c.leaves-2.ensures at c.if-leaves-2.false in
+    {- RECORD fact_1 fact_2 -}
     let enough = rw (c.new-scan.ensures, ← scan_length c.args.from c.args.to) at c.if-out-steps.false in
-    rw c.new-scan.ensures (new_good _ _ (reached _ (near_from c.before.before.before.before.before.before)) (reached _ (near_to c.before.before.before.before)), enough)
+    rw c.new-scan.ensures (new_good _ _ (reached _ (near_from)) (reached _ (near_to)), enough)
 
 pub returns : goal.returns
 unfolding scanAnswer
 returns c =
+    let near_from : leaves c.args.from (negsuc 9999) (pos 10000) ≡ false = rw c.leaves.ensures at c.if-leaves.false in
+    let near_to : leaves c.args.to (negsuc 9999) (pos 10000) ≡ false = rw c.leaves-2.ensures at c.if-leaves-2.false in
     let enough = rw (c.new-scan.ensures, ← scan_length c.args.from c.args.to) at c.if-out-steps.false in
     let told = rw c.new-scan.ensures at c.put_points.ensures in
-    tell_next Far (near_from c.before.before.before.before.before.before.before.before) (tell_next Far (near_to c.before.before.before.before.before.before) (tell_enough enough told))
+    tell_next Far (near_from) (tell_next Far (near_to) (tell_enough enough told))

@@ -17,12 +17,11 @@ put_entry-requires c =
     omega (arith, c.loop-k-test.true, c.loop-k.invariant.1, c.requires)
 
 pub loop-k-preserved : goal.loop-k-preserved
-loop-k-preserved c =
-    (
-      rw c.put_entry.ensures (sym (each_next _ 4 251 c.loop-k.k c.loop-k.out c.loop-k-test.true) ∙ c.loop-k.invariant.0),
-      omega (arith, c.loop-k.invariant.1, c.put_entry.auto.1.1.1.0),
-      omega (arith, c.loop-k-test.true),
-    )
+loop-k-preserved c = (
+  rw c.put_entry.ensures (sym (each_next _ 4 251 c.loop-k.k c.loop-k.out c.loop-k-test.true) ∙ c.loop-k.invariant.0),
+  omega (arith, c.loop-k.invariant.1, c.put_entry.auto.1.1.1.0),
+  omega (arith, c.loop-k-test.true),
+)
 
 pub returns : goal.returns
 returns c = sym (each_last _ 4 251 c.loop-k.k c.loop-k.out c.loop-k-test.false) ∙ c.loop-k.invariant.0

@@ -6,35 +6,36 @@ use Rattle.corners.specs.Finders.{all_corners_from}
 use Rattle.corners.proofs.Signed.{Is, is_fits, is_back, is_opposite}
 use Rattle.corners.proofs.Small.{is_along, is_across, within_near, way_direction}
 use Rattle.corners.proofs.all_corners.AllCornerFinder.new.Goals as goal
-use Rattle.corners.proofs.all_corners.AllCornerFinder.new.Tie as tie
 
 pub line_from-line-requires : goal.line_from-line-requires
 line_from-line-requires c = record { fact_1 = within_near c.requires.fact_1; fact_2 = within_near c.requires.fact_2 }
 
-direction : (c : tie.After-line_from-line) → Direction c.line_from-line.result
-direction c = rw c.line_from-line.ensures (way_direction (within_near c.requires.fact_1) (within_near c.requires.fact_2))
-
 pub along-par-requires : goal.along-par-requires
-along-par-requires c = record { fact_1 = direction c; fact_2 = c.requires.fact_1 }
+along-par-requires c =
+    let direction : Direction c.line_from-line.result = rw c.line_from-line.ensures (way_direction (within_near c.requires.fact_1) (within_near c.requires.fact_2)) in
+    record { fact_1 = direction; fact_2 = c.requires.fact_1 }
 
 pub across-ort-requires : goal.across-ort-requires
-across-ort-requires c = record { fact_1 = direction c.before; fact_2 = c.requires.fact_1 }
-
--- the two scores that the code computes
-module _ (c : tie.After-across) where
-  par : Is c.before.along.result (along_of c.before.before.line-from.result c.before.before.before.args.initial) 31960000
-  par = is_along (direction c.before.before) c.before.before.before.requires.0 c.before.along.ensures
-
-  ort : Is c.across.result (across_of c.before.before.line-from.result c.before.before.before.args.initial) 31960000
-  ort = is_across (direction c.before.before) c.before.before.before.requires.0 c.across.ensures
+across-ort-requires c =
+    let direction : Direction c.line_from-line.result = rw c.line_from-line.ensures (way_direction (within_near c.requires.fact_1) (within_near c.requires.fact_2)) in
+    record { fact_1 = direction; fact_2 = c.requires.fact_1 }
 
 pub overflow_sub-result : goal.overflow_sub-result
-overflow_sub-result c = is_fits (is_opposite (par c))
+overflow_sub-result c =
+    let direction : Direction c.line_from-line.result = rw c.line_from-line.ensures (way_direction (within_near c.requires.fact_1) (within_near c.requires.fact_2)) in
+    let par : Is c.along-par.result (along_of c.line_from-line.result c.args.initial) 31960000 = is_along (direction) c.requires.fact_1 c.along-par.ensures in
+    is_fits (is_opposite (par))
 
 pub overflow_sub-result-2 : goal.overflow_sub-result-2
-overflow_sub-result-2 c = is_fits (is_opposite (ort c))
+overflow_sub-result-2 c =
+    let direction : Direction c.line_from-line.result = rw c.line_from-line.ensures (way_direction (within_near c.requires.fact_1) (within_near c.requires.fact_2)) in
+    let ort : Is c.across-ort.result (across_of c.line_from-line.result c.args.initial) 31960000 = is_across (direction) c.requires.fact_1 c.across-ort.ensures in
+    is_fits (is_opposite (ort))
 
 pub returns : goal.returns
 unfolding all_corners_from behind_of left_of
 returns c =
-    rw (is_back (is_opposite (par c)), is_back (is_opposite (ort c)), is_back (par c), is_back (ort c)) (rw c.line_from-line.ensures)
+    let direction : Direction c.line_from-line.result = rw c.line_from-line.ensures (way_direction (within_near c.requires.fact_1) (within_near c.requires.fact_2)) in
+    let par : Is c.along-par.result (along_of c.line_from-line.result c.args.initial) 31960000 = is_along (direction) c.requires.fact_1 c.along-par.ensures in
+    let ort : Is c.across-ort.result (across_of c.line_from-line.result c.args.initial) 31960000 = is_across (direction) c.requires.fact_1 c.across-ort.ensures in
+    rw (is_back (is_opposite (par)), is_back (is_opposite (ort)), is_back (par), is_back (ort)) (rw c.line_from-line.ensures)
