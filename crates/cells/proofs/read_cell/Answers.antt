@@ -17,7 +17,7 @@ use borrow.Author.Rules.{rules}
 use Rattle.cells.proofs.read_cell.Goals as goal
 
 pub returns-then-x-size : goal.returns-then-x-size
-unfolding cell_of before after answer
+unfolding cell_of
 returns-then-x-size c =
     let before : List Test = side_tests c.args.width c.args.height (length c.args.pic.now) in
     let after : List Test = index_test c.args.size c.args.y c.args.x ∷ [] in
@@ -27,7 +27,7 @@ returns-then-x-size c =
     sym (only ∙ rw (le-ltb c.args.x c.args.size c.if-x-size.true))
 
 pub returns-then-y-size : goal.returns-then-y-size
-unfolding cell_of before after answer
+unfolding cell_of
 returns-then-y-size c =
     let before : List Test = side_tests c.args.width c.args.height (length c.args.pic.now) in
     let after : List Test = index_test c.args.size c.args.y c.args.x ∷ [] in
@@ -37,14 +37,13 @@ returns-then-y-size c =
     sym (only ∙ rw (lt-ltb c.args.x c.args.size c.if-x-size.false, le-ltb c.args.y c.args.size c.if-y-size.true))
 
 pub cell_of-requires : goal.cell_of-requires
-unfolding before
 cell_of-requires c =
     let before : List Test = side_tests c.args.width c.args.height (length c.args.pic.now) in
     let cleared : Clear (before) = sound_clear (before) c.sides.ensures c.in-Sound.is in
     clear_sized _ _ _ (cleared)
 
 pub returns-in-Refused : goal.returns-in-Refused
-unfolding cell_of before after answer
+unfolding cell_of
 returns-in-Refused c =
     let before : List Test = side_tests c.args.width c.args.height (length c.args.pic.now) in
     let after : List Test = index_test c.args.size c.args.y c.args.x ∷ [] in
@@ -52,7 +51,7 @@ returns-in-Refused c =
     refusal_stands (before) (after) (answer) c.sides.ensures c.in-Refused.is
 
 pub returns-else-y-size : goal.returns-else-y-size
-unfolding cell_of before after answer of_bits
+unfolding cell_of of_bits
 returns-else-y-size c =
     let before : List Test = side_tests c.args.width c.args.height (length c.args.pic.now) in
     let after : List Test = index_test c.args.size c.args.y c.args.x ∷ [] in

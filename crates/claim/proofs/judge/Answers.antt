@@ -16,7 +16,6 @@ use Rattle.claim.specs.Tests.{paint_tests}
 use Rattle.claim.proofs.judge.Goals as goal
 
 pub overflow_mul-line : goal.overflow_mul-line
-unfolding before
 overflow_mul-line c =
     let before : List Test = seed_tests c.args.width c.args.height (length c.args.pic.now) c.args.lent c.args.x c.args.y in
     let cleared : Clear (before) = sound_clear (before) c.seeded.ensures c.in-Sound.is in
@@ -27,7 +26,6 @@ overflow_mul-line c =
     omega (arith, inside)
 
 pub overflow_add-line : goal.overflow_add-line
-unfolding before
 overflow_add-line c =
     let before : List Test = seed_tests c.args.width c.args.height (length c.args.pic.now) c.args.lent c.args.x c.args.y in
     let cleared : Clear (before) = sound_clear (before) c.seeded.ensures c.in-Sound.is in
@@ -38,7 +36,6 @@ overflow_add-line c =
     omega (arith, inside)
 
 pub bounds-pic-line : goal.bounds-pic-line
-unfolding before
 bounds-pic-line c =
     let before : List Test = seed_tests c.args.width c.args.height (length c.args.pic.now) c.args.lent c.args.x c.args.y in
     let cleared : Clear (before) = sound_clear (before) c.seeded.ensures c.in-Sound.is in
@@ -49,14 +46,12 @@ bounds-pic-line c =
     inside
 
 pub returns-in-Refused : goal.returns-in-Refused
-unfolding before after
 returns-in-Refused c =
     let before : List Test = seed_tests c.args.width c.args.height (length c.args.pic.now) c.args.lent c.args.x c.args.y in
     let after : List Test = paint_tests (px c.args.pic.now c.args.width c.args.x c.args.y) c.args.target in
     refusal_stands (before) (after) sound c.seeded.ensures c.in-Refused.is
 
 pub returns-in-Sound : goal.returns-in-Sound
-unfolding before after
 returns-in-Sound c =
     let before : List Test = seed_tests c.args.width c.args.height (length c.args.pic.now) c.args.lent c.args.x c.args.y in
     let after : List Test = paint_tests (px c.args.pic.now c.args.width c.args.x c.args.y) c.args.target in

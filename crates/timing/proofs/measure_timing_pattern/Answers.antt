@@ -12,7 +12,7 @@ use borrow.Author.Rules.{rules}
 use Rattle.timing.proofs.measure_timing_pattern.Goals as goal
 
 pub size_between-requires : goal.size_between-requires
-unfolding end0 end1 end2 Ieee.add Ieee.of_int of_bits
+unfolding Ieee.add Ieee.of_int of_bits
 size_between-requires c =
     let end0 : Finding Point = stated_at c.args.c0 (middle 6) (middle 0) in
     let at0 : end0 ≡ found c.in-At.p0 = sym c.state-end0.ensures ∙ ap meaning c.in-At.is in
@@ -23,14 +23,14 @@ size_between-requires c =
     record { fact_1 = c.requires; fact_2 = (stated_near _ _ (at0)).1; fact_3 = (stated_near _ _ (at1)).1; fact_4 = (stated_near _ _ (at2)).1 }
 
 pub returns-in-Refused : goal.returns-in-Refused
-unfolding measured_of measured_between end0 Ieee.add Ieee.of_int of_bits
+unfolding measured_of measured_between Ieee.add Ieee.of_int of_bits
 returns-in-Refused c =
     let end0 : Finding Point = stated_at c.args.c0 (middle 6) (middle 0) in
     let no0 : end0 ≡ refused_by c.in-Refused.why = sym c.state-end0.ensures ∙ ap meaning c.in-Refused.is in
     rw (no0)
 
 pub returns-in-Refused-end1 : goal.returns-in-Refused-end1
-unfolding measured_of measured_between end0 end1 Ieee.add Ieee.of_int of_bits
+unfolding measured_of measured_between Ieee.add Ieee.of_int of_bits
 returns-in-Refused-end1 c =
     let end0 : Finding Point = stated_at c.args.c0 (middle 6) (middle 0) in
     let at0 : end0 ≡ found c.in-At.p0 = sym c.state-end0.ensures ∙ ap meaning c.in-At.is in
@@ -39,7 +39,7 @@ returns-in-Refused-end1 c =
     rw (at0, no1)
 
 pub returns-in-Refused-end2 : goal.returns-in-Refused-end2
-unfolding measured_of measured_between end0 end1 end2 Ieee.add Ieee.of_int of_bits
+unfolding measured_of measured_between Ieee.add Ieee.of_int of_bits
 returns-in-Refused-end2 c =
     let end0 : Finding Point = stated_at c.args.c0 (middle 6) (middle 0) in
     let at0 : end0 ≡ found c.in-At.p0 = sym c.state-end0.ensures ∙ ap meaning c.in-At.is in
@@ -50,7 +50,7 @@ returns-in-Refused-end2 c =
     rw (at0, at1, no2)
 
 pub returns-in-At-end2 : goal.returns-in-At-end2
-unfolding measured_of measured_between end0 end1 end2 Ieee.add Ieee.of_int of_bits
+unfolding measured_of measured_between Ieee.add Ieee.of_int of_bits
 returns-in-At-end2 c =
     let end0 : Finding Point = stated_at c.args.c0 (middle 6) (middle 0) in
     let at0 : end0 ≡ found c.in-At.p0 = sym c.state-end0.ensures ∙ ap meaning c.in-At.is in

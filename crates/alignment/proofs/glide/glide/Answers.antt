@@ -16,10 +16,10 @@ pub glance_at-requires : goal.glance_at-requires
 glance_at-requires c = c.requires.0
 
 pub moved-at-requires : goal.moved-at-requires
-moved-at-requires c = (omega (arith, c.loop-pass.inv.near.x_low), omega (arith, c.loop-pass.inv.near.y_low))
+moved-at-requires c = (omega (arith, c.loop-pass.invariant.near.x_low), omega (arith, c.loop-pass.invariant.near.y_low))
 
 pub next-pass-requires : goal.next-pass-requires
-next-pass-requires c = c.loop-pass.inv.turning
+next-pass-requires c = c.loop-pass.invariant.turning
 
 pub loop-pass-smaller-in-Moves : goal.loop-pass-smaller-in-Moves
 loop-pass-smaller-in-Moves c = rw c.next-pass.ensures (way_less c.loop-pass.invariant c.loop-pass-test.true)
@@ -29,7 +29,7 @@ loop-pass-preserved-in-Moves c =
     rw (c.next-pass.ensures, c.moved-at.ensures) (way_moves c.loop-pass.invariant c.loop-pass-test.true c.glance_at.ensures c.in-Moves.is)
 
 pub next-pass-requires-in-Stays : goal.next-pass-requires-in-Stays
-next-pass-requires-in-Stays c = c.loop-pass.inv.turning
+next-pass-requires-in-Stays c = c.loop-pass.invariant.turning
 
 pub loop-pass-smaller : goal.loop-pass-smaller
 loop-pass-smaller c = rw c.next-pass-in-Stays.ensures (way_less c.loop-pass.invariant c.loop-pass-test.true)

@@ -31,10 +31,10 @@ passed_by-passed-requires c =
     ((visit_keeps c.loop-pass.invariant.0.roomy c.loop-pass.invariant.0.kept.proper c.visit_place-visited.ensures).proper.sound.ordered, c.loop-pass.invariant.0.few)
 
 pub moved-to-requires : goal.moved-to-requires
-moved-to-requires c = (omega (arith, c.loop-pass.inv.0.near.x_low), omega (arith, c.loop-pass.inv.0.near.y_low))
+moved-to-requires c = (omega (arith, c.loop-pass.invariant.0.near.x_low), omega (arith, c.loop-pass.invariant.0.near.y_low))
 
 pub next-requires : goal.next-requires
-next-requires c = c.loop-pass.inv.0.turning
+next-requires c = c.loop-pass.invariant.0.turning
 
 pub glide-on-requires : goal.glide-on-requires
 glide-on-requires c =
@@ -73,12 +73,12 @@ loop-pass-preserved-in-Moves c =
     rw (c.next.ensures, c.moved-to.ensures)
     (along_moves c.loop-pass.invariant.0 c.loop-pass-test.true c.visit_place-visited.ensures (room_after) c.in-Moves.is)
     in
-    let same_picture : length c.visit_place-visited.new.pic ≡ length c.args.pic.now = omega (arith, c.loop-pass.inv.1, c.visit_place-visited.auto.pic) in
-    let same_stack : length c.visit_place-visited.new.stack ≡ length c.args.stack.now = omega (arith, c.loop-pass.inv.2, c.visit_place-visited.auto.stack) in
+    let same_picture : length c.visit_place-visited.new.pic ≡ length c.args.pic.now = omega (arith, c.loop-pass.invariant.1, c.visit_place-visited.auto.pic) in
+    let same_stack : length c.visit_place-visited.new.stack ≡ length c.args.stack.now = omega (arith, c.loop-pass.invariant.2, c.visit_place-visited.auto.stack) in
     (along_glides (on_moves) c.passed_by-passed.ensures c.glide-on.ensures, same_picture, same_stack)
 
 pub next-requires-in-Stays : goal.next-requires-in-Stays
-next-requires-in-Stays c = c.loop-pass.inv.0.turning
+next-requires-in-Stays c = c.loop-pass.invariant.0.turning
 
 pub glide-on-requires-in-Stays : goal.glide-on-requires-in-Stays
 glide-on-requires-in-Stays c =
@@ -108,8 +108,8 @@ loop-pass-preserved c =
     in
     let room_after : length c.loop-pass.stack ≤ length c.visit_place-visited.new.stack = omega (arith, c.visit_place-visited.auto.stack) in
     let on_stays : Ahead c.next-in-Stays.result c.loop-pass.at = rw c.next-in-Stays.ensures (along_stays c.loop-pass.invariant.0 c.loop-pass-test.true c.visit_place-visited.ensures (room_after) c.in-Stays.is) in
-    let same_picture : length c.visit_place-visited.new.pic ≡ length c.args.pic.now = omega (arith, c.loop-pass.inv.1, c.visit_place-visited.auto.pic) in
-    let same_stack : length c.visit_place-visited.new.stack ≡ length c.args.stack.now = omega (arith, c.loop-pass.inv.2, c.visit_place-visited.auto.stack) in
+    let same_picture : length c.visit_place-visited.new.pic ≡ length c.args.pic.now = omega (arith, c.loop-pass.invariant.1, c.visit_place-visited.auto.pic) in
+    let same_stack : length c.visit_place-visited.new.stack ≡ length c.args.stack.now = omega (arith, c.loop-pass.invariant.2, c.visit_place-visited.auto.stack) in
     (along_glides (on_stays) c.passed_by-passed.ensures c.glide-on-in-Stays.ensures, same_picture, same_stack)
 
 pub returns-in-Here : goal.returns-in-Here

@@ -40,13 +40,14 @@ returns-then-outdone-3 c =
     c.if-outdone-3.true)
 
 pub past_marks-requires : goal.past_marks-requires
-past_marks-requires c = {- RECORD fact_1 fact_2 -} (
-  c.requires,
-  record {
-    is = rw (c.plus-marks.ensures.is, c.fitness_capstone.ensures.is, c.fitness_capstone-right.ensures.is);
-    small = search rules;
-  },
-)
+past_marks-requires c =
+    record {
+      fact_1 = c.requires;
+      fact_2 = record {
+        is = rw (c.plus-marks.ensures.is, c.fitness_capstone.ensures.is, c.fitness_capstone-right.ensures.is);
+        small = search rules;
+      };
+    }
 
 pub returns : goal.returns
 returns c =

@@ -28,13 +28,14 @@ returns-then-outdone-2 c =
     c.if-outdone-2.true)
 
 pub completed-requires : goal.completed-requires
-completed-requires c = {- RECORD fact_1 fact_2 -} (
-  c.requires.fact_1,
-  record {
-    is = rw (c.plus-seen.ensures.is, c.fitness_columns.ensures.is, c.plus-lines.ensures.is, c.fitness_timing.ensures.is, c.requires.fact_2.is);
-    small = search rules;
-  },
-)
+completed-requires c =
+    record {
+      fact_1 = c.requires.fact_1;
+      fact_2 = record {
+        is = rw (c.plus-seen.ensures.is, c.fitness_columns.ensures.is, c.plus-lines.ensures.is, c.fitness_timing.ensures.is, c.requires.fact_2.is);
+        small = search rules;
+      };
+    }
 
 pub returns : goal.returns
 returns c = rw c.completed.ensures

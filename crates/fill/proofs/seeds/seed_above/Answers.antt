@@ -17,11 +17,9 @@ overflow_mul-base c =
     omega (arith, line_inside c.requires.sized.0 (c.args.y - 1) (omega arith), c.well_formed)
 
 pub seed_line-requires : goal.seed_line-requires
-seed_line-requires c = {- RECORD base_value sp_in_bounds -}
-    let fits = line_inside c.requires.sized.0 (c.args.y - 1) (omega arith) in (
-      (refl, omega (arith, c.requires.sized.2), omega (arith, c.requires.sized.2, c.requires.sized.0.wide), omega (arith, c.requires.sized.1, c.requires.sized.0.tall)),
-      omega (arith, c.requires.sp_in_bounds, ap length (above_line c.args.w c.args.from c.args.pic.now c.args.left c.args.n c.args.y (held c.args.stack.now c.args.sp) (c.args.y - 1) (omega arith))),
-    )
+seed_line-requires c =
+    let fits = line_inside c.requires.sized.0 (c.args.y - 1) (omega arith) in
+    record { base_value = (refl, omega (arith, c.requires.sized.2), omega (arith, c.requires.sized.2, c.requires.sized.0.wide), omega (arith, c.requires.sized.1, c.requires.sized.0.tall)); sp_in_bounds = omega (arith, c.requires.sp_in_bounds, ap length (above_line c.args.w c.args.from c.args.pic.now c.args.left c.args.n c.args.y (held c.args.stack.now c.args.sp) (c.args.y - 1) (omega arith))) }
 
 pub returns : goal.returns
 returns c =

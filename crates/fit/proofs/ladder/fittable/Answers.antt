@@ -11,7 +11,6 @@ use Rattle.fit.specs.Tests.{own_tests}
 use Rattle.fit.proofs.ladder.fittable.Goals as goal
 
 pub own-requires : goal.own-requires
-unfolding before
 own-requires c =
     let before : List Test = room_tests c.args.width c.args.height c.args.len c.args.lent in
     let passed : Clear (before) = sound_clear (before) c.room.ensures c.in-Sound.is in
@@ -19,14 +18,12 @@ own-requires c =
     (R.sized.wide, R.sized.tall)
 
 pub returns-in-Refused : goal.returns-in-Refused
-unfolding before after
 returns-in-Refused c =
     let before : List Test = room_tests c.args.width c.args.height c.args.len c.args.lent in
     let after : List Test = own_tests c.args.width c.args.height c.args.scratch c.args.table c.args.group in
     refusal_stands (before) (after) sound c.room.ensures c.in-Refused.is
 
 pub returns-in-Sound : goal.returns-in-Sound
-unfolding before after
 returns-in-Sound c =
     let before : List Test = room_tests c.args.width c.args.height c.args.len c.args.lent in
     let after : List Test = own_tests c.args.width c.args.height c.args.scratch c.args.table c.args.group in

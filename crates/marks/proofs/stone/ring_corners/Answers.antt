@@ -24,7 +24,7 @@ pub fill_all_corners-requires : goal.fill_all_corners-requires
 unfolding first_corner
 fill_all_corners-requires c =
     let room_after : length c.args.stack.now ≤ length c.fill_first_corner-first.new.stack = omega (arith, c.fill_first_corner-first.auto.1.1.1.0) in
-    record { fact_1 = fill_two c.requires c.fill_first_corner-first.ensures.0 (room_after); fact_2 = (ring_sides c.requires, rw (c.new-finders.ensures, c.fill_first_corner-first.ensures.1, c.new-finder.ensures, c.point_at-start.ensures) (all_corners_ready (seed_within c.requires) (corner_within c.requires))); fact_3 =  }
+    record { fact_1 = fill_two c.requires c.fill_first_corner-first.ensures.0 (room_after); fact_2 = ring_sides c.requires; fact_3 = rw (c.new-finders.ensures, c.fill_first_corner-first.ensures.1, c.new-finder.ensures, c.point_at-start.ensures) (all_corners_ready (seed_within c.requires) (corner_within c.requires)) }
 
 pub returns : goal.returns
 unfolding first_corner

@@ -11,14 +11,12 @@ use Rattle.picture.proofs.Judged.{refusal_stands, sound_clear}
 use Rattle.picture.proofs.bitmap.accept.Goals as goal
 
 pub returns-in-Refused : goal.returns-in-Refused
-unfolding before after
 returns-in-Refused c =
     let before : List Test = side_tests c.args.width c.args.height (length c.args.pic.now) in
     let after : List Test = byte_test c.args.pic.now ∷ [] in
     refusal_stands (before) (after) sound c.sides.ensures c.in-Refused.is
 
 pub returns-then-is_bitmap : goal.returns-then-is_bitmap
-unfolding before after
 returns-then-is_bitmap c =
     let before : List Test = side_tests c.args.width c.args.height (length c.args.pic.now) in
     let after : List Test = byte_test c.args.pic.now ∷ [] in
@@ -26,7 +24,6 @@ returns-then-is_bitmap c =
     sym (only ∙ rw (sym c.is_bitmap.ensures ∙ c.if-is_bitmap.true))
 
 pub returns-else-is_bitmap : goal.returns-else-is_bitmap
-unfolding before after
 returns-else-is_bitmap c =
     let before : List Test = side_tests c.args.width c.args.height (length c.args.pic.now) in
     let after : List Test = byte_test c.args.pic.now ∷ [] in

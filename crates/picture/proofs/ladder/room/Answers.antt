@@ -13,14 +13,12 @@ use Rattle.picture.proofs.Passed.{clear_sized}
 use Rattle.picture.proofs.ladder.room.Goals as goal
 
 pub returns-in-Refused : goal.returns-in-Refused
-unfolding before after
 returns-in-Refused c =
     let before : List Test = side_tests c.args.width c.args.height c.args.len in
     let after : List Test = room_test c.args.width c.args.height c.args.lent ∷ [] in
     refusal_stands (before) (after) sound c.sides.ensures c.in-Refused.is
 
 pub returns-then-lent-len : goal.returns-then-lent-len
-unfolding before after
 returns-then-lent-len c =
     let before : List Test = side_tests c.args.width c.args.height c.args.len in
     let after : List Test = room_test c.args.width c.args.height c.args.lent ∷ [] in
@@ -30,7 +28,6 @@ returns-then-lent-len c =
     sym (only ∙ rw (lt-ltb c.args.lent (c.args.width * c.args.height) (omega (arith, whole))))
 
 pub returns-else-lent-len : goal.returns-else-lent-len
-unfolding before after
 returns-else-lent-len c =
     let before : List Test = side_tests c.args.width c.args.height c.args.len in
     let after : List Test = room_test c.args.width c.args.height c.args.lent ∷ [] in

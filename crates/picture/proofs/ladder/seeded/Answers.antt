@@ -10,7 +10,6 @@ use Rattle.picture.proofs.Judged.{refusal_stands, sound_clear}
 use Rattle.picture.proofs.ladder.seeded.Goals as goal
 
 pub returns-then-x-width : goal.returns-then-x-width
-unfolding before after
 returns-then-x-width c =
     let before : List Test = room_tests c.args.width c.args.height c.args.len c.args.lent in
     let after : List Test = outside_test c.args.width c.args.height c.args.x c.args.y ∷ [] in
@@ -18,7 +17,6 @@ returns-then-x-width c =
     sym (only ∙ rw (le-ltb c.args.x c.args.width c.if-x-width.true))
 
 pub returns-then-y-height : goal.returns-then-y-height
-unfolding before after
 returns-then-y-height c =
     let before : List Test = room_tests c.args.width c.args.height c.args.len c.args.lent in
     let after : List Test = outside_test c.args.width c.args.height c.args.x c.args.y ∷ [] in
@@ -26,14 +24,12 @@ returns-then-y-height c =
     sym (only ∙ rw (lt-ltb c.args.x c.args.width c.if-x-width.false, le-ltb c.args.y c.args.height c.if-y-height.true))
 
 pub returns-in-Refused : goal.returns-in-Refused
-unfolding before after
 returns-in-Refused c =
     let before : List Test = room_tests c.args.width c.args.height c.args.len c.args.lent in
     let after : List Test = outside_test c.args.width c.args.height c.args.x c.args.y ∷ [] in
     refusal_stands (before) (after) sound c.room.ensures c.in-Refused.is
 
 pub returns-else-y-height : goal.returns-else-y-height
-unfolding before after
 returns-else-y-height c =
     let before : List Test = room_tests c.args.width c.args.height c.args.len c.args.lent in
     let after : List Test = outside_test c.args.width c.args.height c.args.x c.args.y ∷ [] in

@@ -40,9 +40,9 @@ loop-x-preserved c =
     let bytes : (i : ℕ) → get_or c.args.row.now i 0 ≤ 255 = λ i. omega (arith, c.shared_slice_known-1.given i) in
     let a_next : (c.next-a.result ≡ step c.args.s c.loop-x.a (get_or c.args.row.now c.loop-x.x 0)) × (c.next-a.result ≤ 255 * c.args.s) = step_by_reciprocal c.args.s c.loop-x.a _ _ _ c.requires.some c.requires.few c.loop-x.invariant.0.a_low (bytes c.loop-x.x) c.reciprocal-k.ensures c.next-a.ensures in
     let b_next : (c.next-b.result ≡ step c.args.s c.loop-x.b (get_or c.args.row.now (c.loop-x.r - 1) 0)) × (c.next-b.result ≤ 255 * c.args.s) = step_by_reciprocal c.args.s c.loop-x.b _ _ _ c.requires.some c.requires.few c.loop-x.invariant.0.b_low (bytes (c.loop-x.r - 1)) c.reciprocal-k.ensures c.next-b.ensures in (
-      midway_goes_on c.args.s c.args.left c.args.right c.args.row.now c.loop-x.lefts c.loop-x.rights c.loop-x.a c.loop-x.b c.loop-x.x c.loop-x.r c.next-a.result c.next-b.result c.requires.some (bytes) (search rules) (a_next).0 (b_next).0 c.loop-x.inv.0,
-      simp length-set c.loop-x.inv.1,
-      simp length-set c.loop-x.inv.2,
+      midway_goes_on c.args.s c.args.left c.args.right c.args.row.now c.loop-x.lefts c.loop-x.rights c.loop-x.a c.loop-x.b c.loop-x.x c.loop-x.r c.next-a.result c.next-b.result c.requires.some (bytes) (search rules) (a_next).0 (b_next).0 c.loop-x.invariant.0,
+      simp length-set c.loop-x.invariant.1,
+      simp length-set c.loop-x.invariant.2,
     )
 
 pub returns : goal.returns

@@ -12,7 +12,6 @@ use Rattle.regions.specs.Tests.{own_tests}
 use Rattle.regions.proofs.ladder.lookable.Goals as goal
 
 pub own-requires : goal.own-requires
-unfolding before
 own-requires c =
     let before : List Test = seed_tests c.args.width c.args.height (length c.args.pic.now) c.args.lent c.args.x c.args.y in
     let passed : Clear (before) = sound_clear (before) c.seeded.ensures c.in-Sound.is in
@@ -20,14 +19,12 @@ own-requires c =
     (S.sized, S.in_x, S.in_y)
 
 pub returns-in-Refused : goal.returns-in-Refused
-unfolding before after
 returns-in-Refused c =
     let before : List Test = seed_tests c.args.width c.args.height (length c.args.pic.now) c.args.lent c.args.x c.args.y in
     let after : List Test = own_tests c.args.pic.now c.args.width c.args.height c.args.table c.args.x c.args.y in
     refusal_stands (before) (after) sound c.seeded.ensures c.in-Refused.is
 
 pub returns-in-Sound : goal.returns-in-Sound
-unfolding before after
 returns-in-Sound c =
     let before : List Test = seed_tests c.args.width c.args.height (length c.args.pic.now) c.args.lent c.args.x c.args.y in
     let after : List Test = own_tests c.args.pic.now c.args.width c.args.height c.args.table c.args.x c.args.y in
