@@ -34,4 +34,4 @@ returns-in-6 c = rw c.in-6.is
 pub returns-in_default : goal.returns-in_default
 unfolding coefficient
 returns-in_default c =
-    rw (ne_eqb _ 0 c.in_default.rest.0.0.0.0.0.0.1, ne_eqb _ 1 c.in_default.rest.0.0.0.0.0.1, ne_eqb _ 2 c.in_default.rest.0.0.0.0.1, ne_eqb _ 3 c.in_default.rest.0.0.0.1, ne_eqb _ 4 c.in_default.rest.0.0.1, ne_eqb _ 5 c.in_default.rest.0.1, ne_eqb _ 6 c.in_default.rest.1)
+    rw (ne_eqb _ 0 c.in_default.in_default-own.rest.0.0.0.0.0.0.1, ne_eqb _ 1 c.in_default.in_default-own.rest.0.0.0.0.0.1, ne_eqb _ 2 c.in_default.in_default-own.rest.0.0.0.0.1, ne_eqb _ 3 c.in_default.in_default-own.rest.0.0.0.1, ne_eqb _ 4 c.in_default.in_default-own.rest.0.0.1, ne_eqb _ 5 c.in_default.in_default-own.rest.0.1, ne_eqb _ 6 c.in_default.in_default-own.rest.1)

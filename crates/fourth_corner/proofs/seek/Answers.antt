@@ -12,7 +12,7 @@ use Rattle.fourth_corner.proofs.seek.Goals as goal
 pub leftmost-point-requires : goal.leftmost-point-requires
 leftmost-point-requires c =
     let seen = search_sights (ap meaning c.in-At.is) c.find_alignment_pattern-sought.ensures in
-    sighted_claimable (still_roomy c.requires.0.roomy c.find_alignment_pattern-sought.auto.0 (omega (arith, c.find_alignment_pattern-sought.auto.1.1.1.0))) seen c.requires.2
+    sighted_claimable (still_roomy c.requires.0.roomy c.find_alignment_pattern-sought.auto.pic (omega (arith, c.find_alignment_pattern-sought.auto.stack))) seen c.requires.2
 
 pub returns-in-At : goal.returns-in-At
 returns-in-At c =

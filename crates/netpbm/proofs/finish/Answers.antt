@@ -12,10 +12,10 @@ ended-requires c = subst Bounded (sym c.step-end.ensures ∙ c.in-Pixels.is) (st
 
 pub returns-in-Pixels : goal.returns-in-Pixels
 unfolding ended_in
-returns-in-Pixels c =
+returns-in-Pixels c file pixels R =
     told file pixels c.args.reader c.ended.result
     (ap ended_in (sym c.step-end.ensures ∙ c.in-Pixels.is) ∙ sym c.ended.ensures) R
 
 pub returns-in_default : goal.returns-in_default
-returns-in_default c =
-    told file pixels c.args.reader Refused (ap ended_in (sym c.step-end.ensures) ∙ other_ends c.step-end.result c.in_default.keys2) R
+returns-in_default c file pixels R =
+    told file pixels c.args.reader Refused (ap ended_in (sym c.step-end.ensures) ∙ other_ends c.step-end.result c.in_default.in_default-own.keys2) R

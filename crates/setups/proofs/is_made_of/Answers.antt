@@ -6,22 +6,22 @@ use borrow.Author.Tests.{not-false}
 use Rattle.setups.proofs.is_made_of.Goals as goal
 
 pub returns-then-s-size : goal.returns-then-s-size
-returns-then-s-size c = absurd (true≢false (sym e))
+returns-then-s-size c e = absurd (true≢false (sym e))
 
 pub returns-then-not-is_same : goal.returns-then-not-is_same
-returns-then-not-is_same c = absurd (true≢false (sym e))
+returns-then-not-is_same c e = absurd (true≢false (sym e))
 
 pub returns-then-not-is_same-2 : goal.returns-then-not-is_same-2
-returns-then-not-is_same-2 c = absurd (true≢false (sym e))
+returns-then-not-is_same-2 c e = absurd (true≢false (sym e))
 
 pub returns-then-not-is_same-3 : goal.returns-then-not-is_same-3
-returns-then-not-is_same-3 c = absurd (true≢false (sym e))
+returns-then-not-is_same-3 c e = absurd (true≢false (sym e))
 
 pub returns-then-not-is_same-4 : goal.returns-then-not-is_same-4
-returns-then-not-is_same-4 c = absurd (true≢false (sym e))
+returns-then-not-is_same-4 c e = absurd (true≢false (sym e))
 
 pub returns : goal.returns
-returns c =
+returns c e =
     record {
       size = c.if-s-size.false;
       p0 = c.is_same.ensures (c.if-not-is_same.false);

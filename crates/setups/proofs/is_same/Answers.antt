@@ -7,13 +7,13 @@ use borrow.Author.Rules.{rules}
 use Rattle.setups.proofs.is_same.Goals as goal
 
 pub returns-then-a-b : goal.returns-then-a-b
-returns-then-a-b c = absurd (true≢false (sym e))
+returns-then-a-b c e = absurd (true≢false (sym e))
 
 pub returns-then-a-b-2 : goal.returns-then-a-b-2
-returns-then-a-b-2 c = absurd (true≢false (sym e))
+returns-then-a-b-2 c e = absurd (true≢false (sym e))
 
 pub returns : goal.returns
-returns c =
+returns c e =
     let ax : to_z w32 (of_z w32 c.args.a.x) ≡ c.args.a.x = search rules in
     let bx : to_z w32 (of_z w32 c.args.b.x) ≡ c.args.b.x = search rules in
     let ay : to_z w32 (of_z w32 c.args.a.y) ≡ c.args.a.y = search rules in

@@ -5,4 +5,4 @@ use Rattle.grids.specs.Grid.{meaning}
 use Rattle.setups.proofs.remembered.Goals as goal
 
 pub returns-in-Grid : goal.returns-in-Grid
-returns-in-Grid c = record { is = λ some. sym is ∙ ap meaning c.in-Grid.is }
+returns-in-Grid c p w h is known = record { is = λ some. sym is ∙ ap meaning c.in-Grid.is }

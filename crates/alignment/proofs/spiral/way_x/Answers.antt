@@ -13,4 +13,4 @@ returns-in-2 c = rw c.in-2.is
 
 pub returns-in_default : goal.returns-in_default
 unfolding way_x
-returns-in_default c = rw (ne_eqb _ 0 c.in_default.rest.0.1, ne_eqb _ 2 c.in_default.rest.1)
+returns-in_default c = rw (ne_eqb _ 0 c.in_default.in_default-own.rest.0.1, ne_eqb _ 2 c.in_default.in_default-own.rest.1)

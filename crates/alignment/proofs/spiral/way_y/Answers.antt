@@ -13,4 +13,4 @@ returns-in-3 c = rw c.in-3.is
 
 pub returns-in_default : goal.returns-in_default
 unfolding way_y
-returns-in_default c = rw (ne_eqb _ 1 c.in_default.rest.0.1, ne_eqb _ 3 c.in_default.rest.1)
+returns-in_default c = rw (ne_eqb _ 1 c.in_default.in_default-own.rest.0.1, ne_eqb _ 3 c.in_default.in_default-own.rest.1)

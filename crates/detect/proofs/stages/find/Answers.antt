@@ -12,7 +12,7 @@ capstones_from_image-marks-requires c = rw c.empty.ensures c.requires.0
 pub gather-requires : goal.gather-requires
 gather-requires c =
     let S = rw c.empty.ensures at c.capstones_from_image-marks.ensures.0 in
-    (then_workable c.requires.0.roomy (search_keeps c.requires.0 S) (omega (arith, c.capstones_from_image-marks.auto.1.1.1.0)), c.requires.1, c.capstones_from_image-marks.ensures.1, array_stones c.requires.0 c.capstones_from_image-marks.result c.capstones_from_image-marks.ensures.1 S)
+    (then_workable c.requires.0.roomy (search_keeps c.requires.0 S) (omega (arith, c.capstones_from_image-marks.auto.stack)), c.requires.1, c.capstones_from_image-marks.ensures.1, array_stones c.requires.0 c.capstones_from_image-marks.result c.capstones_from_image-marks.ensures.1 S)
 
 pub returns : goal.returns
 returns c =

@@ -16,7 +16,7 @@ pub finish-requires : goal.finish-requires
 finish-requires c =
     let long = length-take-le c.args.marks.n c.args.marks.stones (marks_long c.args.marks c.requires.2) in
     let N = subst (λ (k : ℕ). Named k (groups_of c.find_groupings-found.result)) long (array_named c.find_groupings-found.result c.find_groupings-found.ensures.1 c.find_groupings-found.ensures.0) in
-    (still_workable c.requires.0 c.find_groupings-found.auto.1.1.1.0, c.requires.2, c.requires.3, c.find_groupings-found.ensures.1, N, c.find_groupings-found.ensures.2)
+    (still_workable c.requires.0 c.find_groupings-found.auto.stack, c.requires.2, c.requires.3, c.find_groupings-found.ensures.1, N, c.find_groupings-found.ensures.2)
 
 pub returns-in-Refused : goal.returns-in-Refused
 unfolding told

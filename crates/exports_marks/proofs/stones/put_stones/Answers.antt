@@ -25,8 +25,8 @@ pub loop-k-preserved : goal.loop-k-preserved
 loop-k-preserved c = (
   rw c.put_places.ensures (sym (each_next _ 10 64 c.loop-k.k c.loop-k.places c.loop-k-test.true) ∙ c.loop-k.invariant.0),
   rw c.put_floats.ensures (sym (each_next _ 8 64 c.loop-k.k c.loop-k.floats c.loop-k-test.true) ∙ c.loop-k.invariant.1),
-  omega (arith, c.loop-k.invariant.2, c.put_places.auto.1.1.0),
-  omega (arith, c.loop-k.invariant.3, c.put_floats.auto.1.1.0),
+  omega (arith, c.loop-k.invariant.2, c.put_places.auto.out),
+  omega (arith, c.loop-k.invariant.3, c.put_floats.auto.out),
   omega (arith, c.loop-k-test.true),
 )
 

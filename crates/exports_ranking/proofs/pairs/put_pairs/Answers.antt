@@ -20,7 +20,7 @@ put_pair-requires c =
 pub loop-k-preserved : goal.loop-k-preserved
 loop-k-preserved c = (
   rw c.put_pair.ensures (sym (each_next _ 2 992 c.loop-k.k c.loop-k.out c.loop-k-test.true) ∙ c.loop-k.invariant.0),
-  omega (arith, c.loop-k.invariant.1, c.put_pair.auto.1.1.0),
+  omega (arith, c.loop-k.invariant.1, c.put_pair.auto.out),
   omega (arith, c.loop-k-test.true),
 )
 

@@ -36,8 +36,8 @@ loop-idx-preserved c =
     let goes = sym c.is_sound.ensures ∙ c.if-not-is_sound.false in (
       centres_next c.loop-idx.invariant.0 (omega (arith, long, c.loop-idx-test.true)) c.try_centre-sofar.result c.try_centre-sofar.ensures.0 c.try_centre-sofar.ensures.1 goes,
       omega arith,
-      omega (arith, c.loop-idx.invariant.2, c.try_centre-sofar.auto.1.1.1.0),
-      omega (arith, c.loop-idx.invariant.3, c.try_centre-sofar.auto.1.1.1.1.0),
+      omega (arith, c.loop-idx.invariant.2, c.try_centre-sofar.auto.stack),
+      omega (arith, c.loop-idx.invariant.3, c.try_centre-sofar.auto.scratch),
       c.try_centre-sofar.ensures.2,
     )
 

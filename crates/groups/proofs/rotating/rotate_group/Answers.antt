@@ -6,7 +6,7 @@ use Rattle.groups.specs.Rotate.{gathered, rotated_group}
 use Rattle.groups.proofs.rotating.rotate_group.Goals as goal
 
 pub rotate_capstone-requires : goal.rotate_capstone-requires
-rotate_capstone-requires c = {- RECORD fact_1 fact_2 fact_3 -} search rules
+rotate_capstone-requires c = record { fact_1 = search rules; fact_2 = search rules; fact_3 = search rules }
 
 pub returns-in_default : goal.returns-in_default
 unfolding rotated_group gathered
@@ -15,7 +15,7 @@ returns-in_default c =
     rw flat
 
 pub rotate_capstone-requires-2 : goal.rotate_capstone-requires-2
-rotate_capstone-requires-2 c = {- RECORD fact_1 fact_2 fact_3 -} search rules
+rotate_capstone-requires-2 c = record { fact_1 = search rules; fact_2 = search rules; fact_3 = search rules }
 
 pub returns-in_default-rotate_capstone : goal.returns-in_default-rotate_capstone
 unfolding rotated_group gathered
@@ -25,7 +25,7 @@ returns-in_default-rotate_capstone c =
     rw (first, flat)
 
 pub rotate_capstone-requires-3 : goal.rotate_capstone-requires-3
-rotate_capstone-requires-3 c = {- RECORD fact_1 fact_2 fact_3 -} search rules
+rotate_capstone-requires-3 c = record { fact_1 = search rules; fact_2 = search rules; fact_3 = search rules }
 
 pub returns-in_default-rotate_capstone-2 : goal.returns-in_default-rotate_capstone-2
 unfolding rotated_group gathered

@@ -29,13 +29,13 @@ get_region-ring-requires c =
 
 pub get_region-stone-requires : goal.get_region-stone-requires
 get_region-stone-requires c =
-    let room_after : length c.loop-line.stack ≤ length c.get_region-ring.new.stack = omega (arith, c.get_region-ring.auto.1.1.1.0) in
+    let room_after : length c.loop-line.stack ≤ length c.get_region-ring.new.stack = omega (arith, c.get_region-ring.auto.stack) in
     stone_lookable (over_asks c.loop-line.invariant.0 (reached c.in-At.is c.next_cut.ensures)) (room_after) c.get_region-ring.ensures
 
 pub mark_at-requires : goal.mark_at-requires
 mark_at-requires c =
-    let room_after : length c.loop-line.stack ≤ length c.get_region-ring.new.stack = omega (arith, c.get_region-ring.auto.1.1.1.0) in
-    let room_then : length c.get_region-ring.new.stack ≤ length c.get_region-stone.new.stack = omega (arith, c.get_region-stone.auto.1.1.1.0) in
+    let room_after : length c.loop-line.stack ≤ length c.get_region-ring.new.stack = omega (arith, c.get_region-ring.auto.stack) in
+    let room_then : length c.get_region-ring.new.stack ≤ length c.get_region-stone.new.stack = omega (arith, c.get_region-stone.auto.stack) in
     markable c.get_region-ring.ensures c.get_region-stone.ensures (over_asks c.loop-line.invariant.0 (reached c.in-At.is c.next_cut.ensures)) (room_after) (room_then)
 
 pub with_stone-marks-requires : goal.with_stone-marks-requires
@@ -44,12 +44,12 @@ with_stone-marks-requires c =
 
 pub shape_of-pic-in-Refused : goal.shape_of-pic-in-Refused
 shape_of-pic-in-Refused c =
-    let pic_kept : length c.mark_at.new.pic ≡ length c.loop-line.pic = omega (arith, c.mark_at.auto.0, c.get_region-stone.auto.0, c.get_region-ring.auto.0) in
+    let pic_kept : length c.mark_at.new.pic ≡ length c.loop-line.pic = omega (arith, c.mark_at.auto.pic, c.get_region-stone.auto.pic, c.get_region-ring.auto.pic) in
     omega (arith, c.loop-line.invariant.1, pic_kept)
 
 pub shape_of-stack-in-Refused : goal.shape_of-stack-in-Refused
 shape_of-stack-in-Refused c =
-    let stack_kept : length c.mark_at.new.stack ≡ length c.loop-line.stack = omega (arith, c.mark_at.auto.1.1.1.0, c.get_region-stone.auto.1.1.1.0, c.get_region-ring.auto.1.1.1.0) in
+    let stack_kept : length c.mark_at.new.stack ≡ length c.loop-line.stack = omega (arith, c.mark_at.auto.stack, c.get_region-stone.auto.stack, c.get_region-ring.auto.stack) in
     omega (arith, c.loop-line.invariant.2, stack_kept)
 
 pub returns-in-Refused : goal.returns-in-Refused
@@ -63,8 +63,8 @@ loop-line-smaller-in-Stone c =
 
 pub loop-line-preserved-in-Stone : goal.loop-line-preserved-in-Stone
 loop-line-preserved-in-Stone c =
-    let stack_kept : length c.mark_at.new.stack ≡ length c.loop-line.stack = omega (arith, c.mark_at.auto.1.1.1.0, c.get_region-stone.auto.1.1.1.0, c.get_region-ring.auto.1.1.1.0) in
-    let pic_kept : length c.mark_at.new.pic ≡ length c.loop-line.pic = omega (arith, c.mark_at.auto.0, c.get_region-stone.auto.0, c.get_region-ring.auto.0) in
+    let stack_kept : length c.mark_at.new.stack ≡ length c.loop-line.stack = omega (arith, c.mark_at.auto.stack, c.get_region-stone.auto.stack, c.get_region-ring.auto.stack) in
+    let pic_kept : length c.mark_at.new.pic ≡ length c.loop-line.pic = omega (arith, c.mark_at.auto.pic, c.get_region-stone.auto.pic, c.get_region-ring.auto.pic) in
     let K = takes_stone (tries_of c.get_region-ring.ensures c.get_region-stone.ensures c.mark_at.ensures) (ap meaning c.in-Stone.is) c.with_stone-marks.ensures in
     (over_next c.loop-line.invariant.0 (reached c.in-At.is c.next_cut.ensures) K (omega (arith, stack_kept)) (found_stones c.with_stone-marks.result _ c.with_stone-marks.ensures.0).0, omega (arith, c.loop-line.invariant.1, pic_kept), omega (arith, c.loop-line.invariant.2, stack_kept))
 
@@ -74,7 +74,7 @@ loop-line-smaller c =
 
 pub loop-line-preserved : goal.loop-line-preserved
 loop-line-preserved c =
-    let stack_kept : length c.mark_at.new.stack ≡ length c.loop-line.stack = omega (arith, c.mark_at.auto.1.1.1.0, c.get_region-stone.auto.1.1.1.0, c.get_region-ring.auto.1.1.1.0) in
-    let pic_kept : length c.mark_at.new.pic ≡ length c.loop-line.pic = omega (arith, c.mark_at.auto.0, c.get_region-stone.auto.0, c.get_region-ring.auto.0) in
+    let stack_kept : length c.mark_at.new.stack ≡ length c.loop-line.stack = omega (arith, c.mark_at.auto.stack, c.get_region-stone.auto.stack, c.get_region-ring.auto.stack) in
+    let pic_kept : length c.mark_at.new.pic ≡ length c.loop-line.pic = omega (arith, c.mark_at.auto.pic, c.get_region-stone.auto.pic, c.get_region-ring.auto.pic) in
     let K = takes_nothing (tries_of c.get_region-ring.ensures c.get_region-stone.ensures c.mark_at.ensures) (ap meaning c.in-Dropped.is) c.loop-line.invariant.0.laid c.loop-line.invariant.0.going in
     (over_next c.loop-line.invariant.0 (reached c.in-At.is c.next_cut.ensures) K (omega (arith, stack_kept)) c.loop-line.invariant.0.going, omega (arith, c.loop-line.invariant.1, pic_kept), omega (arith, c.loop-line.invariant.2, stack_kept))

@@ -17,12 +17,12 @@ loop-i-init c = (omega arith, refl)
 
 pub loop-i-preserved : goal.loop-i-preserved
 loop-i-preserved c =
-    let one = pair_of (get_or c.args.t1.all c.loop-i.i no_set) in
-    let long : length (map pair_of (take c.loop-i.i c.args.t1.all)) ≡ c.loop-i.i = length-map (take c.loop-i.i c.args.t1.all) pair_of ∙ length-take-le c.loop-i.i c.args.t1.all (omega arith) in
-    let next : map pair_of (take (c.loop-i.i + 1) c.args.t1.all) ≡ map pair_of (take c.loop-i.i c.args.t1.all) ++ (one ∷ []) = rw (add-one, take-suc c.args.t1.all c.loop-i.i no_set (omega arith), map-append) in
-    (omega arith, rw next (laid_more 992 c.loop-i.pairs (map pair_of (take c.loop-i.i c.args.t1.all)) one no_pair c.loop-i.i long (omega arith) c.loop-i.invariant.1))
+    let one = pair_of (get_or c.args.t.all c.loop-i.i no_set) in
+    let long : length (map pair_of (take c.loop-i.i c.args.t.all)) ≡ c.loop-i.i = length-map (take c.loop-i.i c.args.t.all) pair_of ∙ length-take-le c.loop-i.i c.args.t.all (omega arith) in
+    let next : map pair_of (take (c.loop-i.i + 1) c.args.t.all) ≡ map pair_of (take c.loop-i.i c.args.t.all) ++ (one ∷ []) = rw (add-one, take-suc c.args.t.all c.loop-i.i no_set (omega arith), map-append) in
+    (omega arith, rw next (laid_more 992 c.loop-i.pairs (map pair_of (take c.loop-i.i c.args.t.all)) one no_pair c.loop-i.i long (omega arith) c.loop-i.invariant.1))
 
 pub returns : goal.returns
 returns c =
-    let all : c.loop-i.i ≡ c.args.t1.n = omega arith in
+    let all : c.loop-i.i ≡ c.args.t.n = omega arith in
     rw (← all) c.loop-i.invariant.1

@@ -24,84 +24,84 @@ loop-i-init c = (omega arith, omega arith, (λ _. refl), record { room_is = refl
 pub loop-i-preserved-then-j-vns : goal.loop-i-preserved-then-j-vns
 unfolding flat_map
 loop-i-preserved-then-j-vns c =
-    let second : List Neighbor = take c.args.t2.n c.args.t2.all in
-    let next = flat_map_next (sets_of (second)) c.args.t1.all c.loop-i.i no_neighbor (omega arith) in
+    let second : List Neighbor = take c.args.t.n c.args.t.all in
+    let next = flat_map_next (sets_of (second)) c.args.t.all c.loop-i.i no_neighbor (omega arith) in
     (omega arith, omega arith, (λ _. refl), rw (add-one c.loop-i.i, next) (holds_same (rw c.if-j-vns.true at c.loop-i.invariant.3)))
 
 pub loop-i-preserved-then-not-is_viable : goal.loop-i-preserved-then-not-is_viable
 loop-i-preserved-then-not-is_viable c =
-    let second : List Neighbor = take c.args.t2.n c.args.t2.all in
-    let hn = get_or c.args.t1.all c.loop-i.i no_neighbor in
-    let vn = get_or c.args.t2.all c.loop-i.j no_neighbor in
+    let second : List Neighbor = take c.args.t.n c.args.t.all in
+    let hn = get_or c.args.t.all c.loop-i.i no_neighbor in
+    let vn = get_or c.args.t.all c.loop-i.j no_neighbor in
     let drops : viable (set_of hn vn).score ≡ false = ap viable (sym c.score_of-score.ensures) ∙ sym c.is_viable.ensures ∙ c.if-not-is_viable.true in
-    let ahead = made (take c.loop-i.i c.args.t1.all) (second) in (
+    let ahead = made (take c.loop-i.i c.args.t.all) (second) in (
       omega arith,
       omega arith,
       (λ high. absurd (omega arith)),
-      holds_nothing (one_set hn) ahead c.args.t2.all c.loop-i.j no_neighbor c.loop-i.invariant.3 (omega arith) (rw drops),
+      holds_nothing (one_set hn) ahead c.args.t.all c.loop-i.j no_neighbor c.loop-i.invariant.3 (omega arith) (rw drops),
     )
 
 pub offset_bounds-all-n : goal.offset_bounds-all-n
 offset_bounds-all-n c =
-    let second : List Neighbor = take c.args.t2.n c.args.t2.all in
+    let second : List Neighbor = take c.args.t.n c.args.t.all in
     let fits : c.loop-i.n < 992 =
-    let first = take c.loop-i.i c.args.t1.all in
-    let part = take c.loop-i.j c.args.t2.all in
-    let i-long : length first ≡ c.loop-i.i = length-take-le c.loop-i.i c.args.t1.all (omega arith) in
-    let v-long : length (second) ≡ c.args.t2.n = length-take-le c.args.t2.n c.args.t2.all (omega arith) in
-    let j-long : length part ≡ c.loop-i.j = length-take-le c.loop-i.j c.args.t2.all (omega arith) in
-    omega (arith, c.loop-i.invariant.3.count, room_for_one first (second) part (get_or c.args.t1.all c.loop-i.i no_neighbor) (omega arith) (omega arith))
+    let first = take c.loop-i.i c.args.t.all in
+    let part = take c.loop-i.j c.args.t.all in
+    let i-long : length first ≡ c.loop-i.i = length-take-le c.loop-i.i c.args.t.all (omega arith) in
+    let v-long : length (second) ≡ c.args.t.n = length-take-le c.args.t.n c.args.t.all (omega arith) in
+    let j-long : length part ≡ c.loop-i.j = length-take-le c.loop-i.j c.args.t.all (omega arith) in
+    omega (arith, c.loop-i.invariant.3.count, room_for_one first (second) part (get_or c.args.t.all c.loop-i.i no_neighbor) (omega arith) (omega arith))
     in
     omega (arith, fits)
 
 pub bounds-all-n : goal.bounds-all-n
 bounds-all-n c =
-    let second : List Neighbor = take c.args.t2.n c.args.t2.all in
+    let second : List Neighbor = take c.args.t.n c.args.t.all in
     let fits : c.loop-i.n < 992 =
-    let first = take c.loop-i.i c.args.t1.all in
-    let part = take c.loop-i.j c.args.t2.all in
-    let i-long : length first ≡ c.loop-i.i = length-take-le c.loop-i.i c.args.t1.all (omega arith) in
-    let v-long : length (second) ≡ c.args.t2.n = length-take-le c.args.t2.n c.args.t2.all (omega arith) in
-    let j-long : length part ≡ c.loop-i.j = length-take-le c.loop-i.j c.args.t2.all (omega arith) in
-    omega (arith, c.loop-i.invariant.3.count, room_for_one first (second) part (get_or c.args.t1.all c.loop-i.i no_neighbor) (omega arith) (omega arith))
+    let first = take c.loop-i.i c.args.t.all in
+    let part = take c.loop-i.j c.args.t.all in
+    let i-long : length first ≡ c.loop-i.i = length-take-le c.loop-i.i c.args.t.all (omega arith) in
+    let v-long : length (second) ≡ c.args.t.n = length-take-le c.args.t.n c.args.t.all (omega arith) in
+    let j-long : length part ≡ c.loop-i.j = length-take-le c.loop-i.j c.args.t.all (omega arith) in
+    omega (arith, c.loop-i.invariant.3.count, room_for_one first (second) part (get_or c.args.t.all c.loop-i.i no_neighbor) (omega arith) (omega arith))
     in
     omega (arith, fits)
 
 pub overflow_add-n : goal.overflow_add-n
 overflow_add-n c =
-    let second : List Neighbor = take c.args.t2.n c.args.t2.all in
+    let second : List Neighbor = take c.args.t.n c.args.t.all in
     let fits : c.loop-i.n < 992 =
-    let first = take c.loop-i.i c.args.t1.all in
-    let part = take c.loop-i.j c.args.t2.all in
-    let i-long : length first ≡ c.loop-i.i = length-take-le c.loop-i.i c.args.t1.all (omega arith) in
-    let v-long : length (second) ≡ c.args.t2.n = length-take-le c.args.t2.n c.args.t2.all (omega arith) in
-    let j-long : length part ≡ c.loop-i.j = length-take-le c.loop-i.j c.args.t2.all (omega arith) in
-    omega (arith, c.loop-i.invariant.3.count, room_for_one first (second) part (get_or c.args.t1.all c.loop-i.i no_neighbor) (omega arith) (omega arith))
+    let first = take c.loop-i.i c.args.t.all in
+    let part = take c.loop-i.j c.args.t.all in
+    let i-long : length first ≡ c.loop-i.i = length-take-le c.loop-i.i c.args.t.all (omega arith) in
+    let v-long : length (second) ≡ c.args.t.n = length-take-le c.args.t.n c.args.t.all (omega arith) in
+    let j-long : length part ≡ c.loop-i.j = length-take-le c.loop-i.j c.args.t.all (omega arith) in
+    omega (arith, c.loop-i.invariant.3.count, room_for_one first (second) part (get_or c.args.t.all c.loop-i.i no_neighbor) (omega arith) (omega arith))
     in
     omega (arith, fits)
 
 pub loop-i-preserved : goal.loop-i-preserved
 loop-i-preserved c =
-    let second : List Neighbor = take c.args.t2.n c.args.t2.all in
+    let second : List Neighbor = take c.args.t.n c.args.t.all in
     let fits : c.loop-i.n < 992 =
-    let first = take c.loop-i.i c.args.t1.all in
-    let part = take c.loop-i.j c.args.t2.all in
-    let i-long : length first ≡ c.loop-i.i = length-take-le c.loop-i.i c.args.t1.all (omega arith) in
-    let v-long : length (second) ≡ c.args.t2.n = length-take-le c.args.t2.n c.args.t2.all (omega arith) in
-    let j-long : length part ≡ c.loop-i.j = length-take-le c.loop-i.j c.args.t2.all (omega arith) in
-    omega (arith, c.loop-i.invariant.3.count, room_for_one first (second) part (get_or c.args.t1.all c.loop-i.i no_neighbor) (omega arith) (omega arith))
+    let first = take c.loop-i.i c.args.t.all in
+    let part = take c.loop-i.j c.args.t.all in
+    let i-long : length first ≡ c.loop-i.i = length-take-le c.loop-i.i c.args.t.all (omega arith) in
+    let v-long : length (second) ≡ c.args.t.n = length-take-le c.args.t.n c.args.t.all (omega arith) in
+    let j-long : length part ≡ c.loop-i.j = length-take-le c.loop-i.j c.args.t.all (omega arith) in
+    omega (arith, c.loop-i.invariant.3.count, room_for_one first (second) part (get_or c.args.t.all c.loop-i.i no_neighbor) (omega arith) (omega arith))
     in
-    let hn = get_or c.args.t1.all c.loop-i.i no_neighbor in
-    let vn = get_or c.args.t2.all c.loop-i.j no_neighbor in
+    let hn = get_or c.args.t.all c.loop-i.i no_neighbor in
+    let vn = get_or c.args.t.all c.loop-i.j no_neighbor in
     let keeps : viable (set_of hn vn).score ≡ true = ap viable (sym c.score_of-score.ensures) ∙ sym c.is_viable.ensures ∙ c.if-not-is_viable.false in (
       omega arith,
       omega arith,
       (λ high. absurd (omega arith)),
-      rw c.score_of-score.ensures (holds_one (one_set hn) (made (take c.loop-i.i c.args.t1.all) (second)) c.args.t2.all c.loop-i.j no_neighbor c.loop-i.invariant.3 (omega arith) (set_of hn vn) (fits) (rw keeps)),
+      rw c.score_of-score.ensures (holds_one (one_set hn) (made (take c.loop-i.i c.args.t.all) (second)) c.args.t.all c.loop-i.j no_neighbor c.loop-i.invariant.3 (omega arith) (set_of hn vn) (fits) (rw keeps)),
     )
 
 pub returns : goal.returns
 unfolding flat_map
 returns c =
-    let all : c.loop-i.i ≡ c.args.t1.n = omega arith in
+    let all : c.loop-i.i ≡ c.args.t.n = omega arith in
     rw (← all) (rw (c.loop-i.invariant.2 (omega arith), append-nil) at c.loop-i.invariant.3)

@@ -64,9 +64,9 @@ loop-y-preserved c =
     let some : 1 ≤ s-of = omega (arith, c.span-s.ensures) in
     onward_goes_on (s-of) c.args.width c.args.height c.args.pic.now c.loop-y.pic c.loop-y.lefts c.loop-y.rights c.loop-y.left c.loop-y.right c.loop-y.base c.loop-y.y c.loop-y.invariant
     (c.loop-y.base + c.args.width - c.loop-y.base) c.threshold_row-ends.new.row c.threshold_row-ends.new.lefts c.threshold_row-ends.new.rights c.threshold_row-ends.result.right c.threshold_row-ends.result.left
-    (omega arith) (some) (omega arith) c.threshold_row-ends.ensures.1 c.threshold_row-ends.auto.0 (λ i. omega (arith, c.slice_known-in-loop-y-1.given i))
+    (omega arith) (some) (omega arith) c.threshold_row-ends.ensures.1 c.threshold_row-ends.auto.row (λ i. omega (arith, c.slice_known-in-loop-y-1.given i))
     (ap (λ (e : Ends). e.right) c.threshold_row-ends.ensures.0) (ap (λ (e : Ends). e.left) c.threshold_row-ends.ensures.0)
-    (c.threshold_row-ends.auto.1.1.1.1.0 ∙ c.loop-y.invariant.lefts_long) (c.threshold_row-ends.auto.1.1.1.1.1.0 ∙ c.loop-y.invariant.rights_long)
+    (c.threshold_row-ends.auto.lefts ∙ c.loop-y.invariant.lefts_long) (c.threshold_row-ends.auto.rights ∙ c.loop-y.invariant.rights_long)
 
 pub shape_of-pic : goal.shape_of-pic
 shape_of-pic c = c.loop-y.invariant.long ∙ sym c.requires.whole

@@ -24,7 +24,7 @@ fill_back-requires c =
 
 pub paint_number-requires-2 : goal.paint_number-requires-2
 paint_number-requires-2 c =
-    let room : length c.args.stack.now ≤ length c.fill_back.new.stack = omega (arith, c.fill_back.auto.1.1.1.0) in
+    let room : length c.args.stack.now ≤ length c.fill_back.new.stack = omega (arith, c.fill_back.auto.stack) in
     (can_number_again c.requires.seeded room (c.requires.black (omega arith)) c.fill_back.ensures, c.requires.low)
 
 pub returns : goal.returns

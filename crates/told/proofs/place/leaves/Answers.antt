@@ -14,8 +14,8 @@ returns-then-between c =
     let high = to_z-of_z c.ranges.high in
     let same_x : to_z w32 (of_z w32 c.args.p.x) ≡ c.args.p.x = search rules in
     let same_y : to_z w32 (of_z w32 c.args.p.y) ≡ c.args.p.y = search rules in
-    let x-is = rw (low, same_x, high) c.before.before.before.before.before c.between.ensures in
-    let y-is = simp (low, same_x, same_y, high) c.before.before.before.before.before c.between-then-between.ensures in
+    let x-is = rw (low, same_x, high) at c.between.ensures in
+    let y-is = simp (low, same_x, same_y, high) at c.between-then-between.ensures in
     simp (← x-is, ← y-is, c.if-between.true)
 
 pub returns : goal.returns
@@ -24,5 +24,5 @@ returns c =
     let low = to_z-of_z c.ranges.low in
     let high = to_z-of_z c.ranges.high in
     let same_x : to_z w32 (of_z w32 c.args.p.x) ≡ c.args.p.x = search rules in
-    let x-is = rw (low, same_x, high) c.before.before.before c.between.ensures in
+    let x-is = rw (low, same_x, high) at c.between.ensures in
     rw (← x-is, c.if-between.false)

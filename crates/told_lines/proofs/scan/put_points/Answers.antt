@@ -30,26 +30,22 @@ returns-in_default c =
 
 pub numbers_at-requires : goal.numbers_at-requires
 numbers_at-requires c =
-    let saw : step_of c.loop-p.scan ≡ Seen c.in-Seen.p c.in-Seen.next = sym c.step-step.ensures ∙ c.in-Seen.is in
-    two_left c.loop-p.invariant (saw) c.requires.fact_2
+    two_left c.loop-p.invariant (saw at) c.requires.fact_2
 
 pub overflow_add-at : goal.overflow_add-at
 overflow_add-at c =
-    let saw : step_of c.loop-p.scan ≡ Seen c.in-Seen.p c.in-Seen.next = sym c.step-step.ensures ∙ c.in-Seen.is in
-    let room = two_left c.loop-p.invariant (saw) c.requires.fact_2 in
+    let room = two_left c.loop-p.invariant (saw at) c.requires.fact_2 in
     let same = same_room c.loop-p.invariant c.requires.fact_2 in
     record { fits = omega (arith, c.well_formed) }
 
 pub loop-p-smaller : goal.loop-p-smaller
 loop-p-smaller c =
-    let saw : step_of c.loop-p.scan ≡ Seen c.in-Seen.p c.in-Seen.next = sym c.step-step.ensures ∙ c.in-Seen.is in
-    let next = step_seen _ _ _ (saw) in
+    let next = step_seen _ _ _ (saw at) in
     omega arith
 
 pub loop-p-preserved : goal.loop-p-preserved
 loop-p-preserved c =
-    let saw : step_of c.loop-p.scan ≡ Seen c.in-Seen.p c.in-Seen.next = sym c.step-step.ensures ∙ c.in-Seen.is in
     let same_x : to_z w32 (of_z w32 c.in-Seen.p.x) ≡ c.in-Seen.p.x = search rules in
     let same_y : to_z w32 (of_z w32 c.in-Seen.p.y) ≡ c.in-Seen.p.y = search rules in
-    let stored = rw (same_x, same_y) c.before.before.before.before.before.before c.numbers_at.ensures in
-    rw stored (more_written c.loop-p.invariant (saw) c.requires.fact_2)
+    let stored = rw (same_x, same_y) at c.numbers_at.ensures in
+    rw stored (more_written c.loop-p.invariant (saw at) c.requires.fact_2)

@@ -40,9 +40,8 @@ pub put_points-requires : goal.put_points-requires
 put_points-requires c =
     let near_from : leaves c.args.from (negsuc 9999) (pos 10000) ≡ false = rw c.leaves.ensures at c.if-leaves.false in
     let near_to : leaves c.args.to (negsuc 9999) (pos 10000) ≡ false = rw c.leaves-2.ensures at c.if-leaves-2.false in
-    {- RECORD fact_1 fact_2 -}
     let enough = rw (c.new-scan.ensures, ← scan_length c.args.from c.args.to) at c.if-out-steps.false in
-    rw c.new-scan.ensures (new_good _ _ (reached _ (near_from)) (reached _ (near_to)), enough)
+    record { fact_1 = rw c.new-scan.ensures (new_good _ _ (reached _ (near_from)) (reached _ (near_to))); fact_2 = rw c.new-scan.ensures (enough) }
 
 pub returns : goal.returns
 unfolding scanAnswer

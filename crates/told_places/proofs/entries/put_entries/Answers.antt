@@ -19,7 +19,7 @@ put_entry-requires c =
 pub loop-k-preserved : goal.loop-k-preserved
 loop-k-preserved c = (
   rw c.put_entry.ensures (sym (each_next _ 4 251 c.loop-k.k c.loop-k.out c.loop-k-test.true) ∙ c.loop-k.invariant.0),
-  omega (arith, c.loop-k.invariant.1, c.put_entry.auto.1.1.1.0),
+  omega (arith, c.loop-k.invariant.1, c.put_entry.auto.out),
   omega (arith, c.loop-k-test.true),
 )
 
