@@ -26,5 +26,5 @@ each_set d f (x ∷ xs) (u ∷ us) (suc k) y v s t = (s.0, each_set d f xs us k 
 pub is_set : (R : RattleType) (vals : R.Denot → List Val) → Tells R (Is R) vals → (n : ℕ) (xs : List R.Denot) (vs : List Val) (k : ℕ) (y : R.Denot) (v : Val)
     → Is (Array R n) xs vs → Is R y (v ∷ []) → Is (Array R n) (set xs k y) (array_vals vals (set xs k y))
 is_set R vals tells n xs vs k y v p t =
-    let q : Is (Array R n) (set xs k y) (array_val (set p.0 k v) ∷ []) = (set p.0 k v, ((refl, length-set xs k y ∙ p.1.0.1), each_set R.Denot R.own xs p.0 k y v p.1.1 t)) in
+    let q : Is (Array R n) (set xs k y) (array_val (set p.0 k v) ∷ []) = (set p.0 k v, ((refl, length-set xs k y ∙ p.1.0.1), each_set R.Denot R.own_val xs p.0 k y v p.1.1 t)) in
     subst (Is (Array R n) (set xs k y)) (Array-Tells R vals tells n (set xs k y) (array_val (set p.0 k v) ∷ []) q) q

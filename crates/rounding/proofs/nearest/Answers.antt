@@ -5,6 +5,7 @@ use lib.Dec.{T}
 use lib.Ieee.{of_bits, neg}
 use Prim.Native.Nat.{ℕ}
 use lib.IntN.{pos, neg_ℤ}
+use mir.Syntax.{w32}
 use mir.Facts.{to_z-of_z}
 use Rattle.rounding.specs.declared.Whole.TheVariants.{At, Off}
 use Rattle.rounding.proofs.Cases.{Up, up_at, up_off, Down, down_at_lem, down_off, rest_nan, rest_zero}
@@ -26,7 +27,7 @@ pub returns-then-x-2 : goal.returns-then-x-2
 unfolding neg of_bits
 returns-then-x-2 c =
     let ups : Up c.args.x = up_at c.args.x c.if-x.true c.if-x-2.true in
-    ap At (to_z-of_z (record { sfits = c.plus.type_inv }) ∙ c.plus.ensures ∙ ap pos c.half_up.ensures)
+    ap At (to_z-of_z {w = w32} (record { sfits = c.plus.type_inv }) ∙ c.plus.ensures ∙ ap pos c.half_up.ensures)
     ∙ sym (ups).at
 
 pub returns-then-x : goal.returns-then-x
@@ -49,7 +50,7 @@ pub returns-then-x-4 : goal.returns-then-x-4
 unfolding neg of_bits
 returns-then-x-4 c =
     let downs : Down c.args.x = down_at_lem c.args.x c.if-x-3.true c.if-x-4.true in
-    ap At (to_z-of_z (record { sfits = c.minus.type_inv }) ∙ c.minus.ensures ∙ ap (λ (n : ℕ). neg_ℤ (pos n)) c.half_up-then-x-4.ensures)
+    ap At (to_z-of_z {w = w32} (record { sfits = c.minus.type_inv }) ∙ c.minus.ensures ∙ ap (λ (n : ℕ). neg_ℤ (pos n)) c.half_up-then-x-4.ensures)
     ∙ sym (downs).at
 
 pub returns-then-x-3 : goal.returns-then-x-3

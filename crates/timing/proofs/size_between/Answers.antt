@@ -5,7 +5,7 @@ use borrow.Author.Rules.{rules}
 use Rattle.timing.proofs.size_between.Goals as goal
 
 pub size_by-requires : goal.size_by-requires
-size_by-requires c = {- RECORD fact_1 fact_2 -}
+size_by-requires c =
     rw (c.timing_scan-hscan.ensures, c.timing_scan-vscan.ensures)
     (changes_few _ _ _ _ _ c.requires.fact_3 c.requires.fact_4, changes_few _ _ _ _ _ c.requires.fact_3 c.requires.fact_2)
 

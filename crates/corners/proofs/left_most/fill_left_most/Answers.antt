@@ -23,7 +23,7 @@ pub fill_step-requires : goal.fill_step-requires
 fill_step-requires c = looking_asks c.loop-sp.invariant c.loop-sp-test.true
 
 pub update-found-requires : goal.update-found-requires
-update-found-requires c = {- RECORD fact_1 fact_2 -}
+update-found-requires c =
     looking_row c.loop-sp.invariant c.loop-sp-test.true c.fill_step.ensures c.in-Met.is (search rules) (search rules)
 
 pub loop-sp-smaller-in-Met : goal.loop-sp-smaller-in-Met
