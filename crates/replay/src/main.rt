@@ -1,13 +1,14 @@
-// Replays runs of lookups and claims. Standard input holds runs, one after the other: width, height, and the number of calls (low byte, high
-// byte); then the bitmap, a byte a pixel, of which only the lowest bit counts; then four bytes a call: 0 for a lookup or 1 for a claim, x, y,
-// target. Sides are at most 128, and calls at most 4,096; a run with more is passed over. For each run it writes what each call answered, in 13 bytes; then the picture; then the table's count, and for each place its age and its entry.
+// Replays runs of lookups and claims. Standard input holds runs, one after the other: width, height, and the number of calls (low byte, high byte);
+// then the bitmap, a byte a pixel, of which only the lowest bit counts; then four bytes a call: 0 for a lookup or 1 for a claim, x, y, target. Sides
+// are at most 128, and calls at most 4,096; a run with more is passed over. For each run it writes what each call answered, in 13 bytes; then the
+// picture; then the table's count, and for each place its age and its entry.
 #![tactic(auto)]
 
 mod calls;
 mod put;
 
 ghost use Rattle.std.specs.Prelude.{◌≡◌, ◌<◌, length};
-ghost use Rattle.io.specs.Counts.{IsPrefixLen};
+ghost use Rattle.std.specs.Counts.{IsPrefixLen};
 
 use std::io;
 use std::io::{Read, Write};
