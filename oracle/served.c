@@ -1,4 +1,4 @@
-// Detect in a process of its own, for a machine whose processor is not the one that `rt staticlib` builds for: oracle/run has it run by an
+// Detect in a process of its own, for a machine whose processor is not the one that `rt lib` builds for: oracle/run has it run by an
 // emulator. A picture comes on the standard input: width, height, its length and the room lent (64 bits each), then its bytes. What detect
 // tells goes to the standard output: the number, the picture, and the places lent. The stack and the scratch are never cleared.
 #include <stdint.h>

@@ -2,14 +2,15 @@
 #![tactic(auto)]
 
 ghost use Rattle.std.specs.Prelude.{◌≡◌, ◌≤◌, length, take};
-ghost use Rattle.io.specs.Counts.{IsPrefixLen};
+ghost use Rattle.std.specs.Counts.{IsPrefixLen};
 ghost use Rattle.netpbm.specs.Form.{most_pixels};
 ghost use Rattle.locate.specs.Prints.{Responds};
 
-use libc::STDOUT_FILENO;
-
 mod finding;
 mod reading;
+
+use std::io;
+use std::io::{Read, Write};
 
 // A byte a pixel: for the picture, and for the copy that groups are tried on.
 fn room() -> [u8; 16384]
@@ -18,19 +19,26 @@ fn room() -> [u8; 16384]
     [0u8; 16384]
 }
 
+// Room for the text that is printed, or for the next bytes of the input.
+fn large_buffer() -> [u8; 65536]
+    ensures { 65536 ≡ length result }
+{
+    [0u8; 65536]
+}
+
 // Reads the input, and makes the text that is printed of it.
-fn respond(out: &mut [u8]) -> usize
+fn respond<R: Read>(input: &mut R, out: &mut [u8]) -> usize
     requires { 7374 ≤ length out.old }
     ensures { Responds (take result out.new) × IsPrefixLen result out.new }
 {
     let mut pixels = room();
-    let input = reading::read(&mut pixels);
-    finding::answer(input, &mut pixels, out)
+    let read = reading::read(input, &mut pixels);
+    finding::answer(read, &mut pixels, out)
 }
 
 // Writes that text.
-fn main() {
-    let mut out = io::large_buffer();
-    let n = respond(&mut out);
-    io::write_all(STDOUT_FILENO, &out[..n]);
+fn main(rt: HostRuntime) -> io::Result<()> {
+    let mut out = large_buffer();
+    let n = respond(&mut rt.stdin(), &mut out);
+    rt.stdout().write_all(&out[..n])
 }

@@ -1,10 +1,11 @@
 // The calls of one run.
 ghost use Rattle.std.specs.Prelude.{◌+◌, ◌≤◌, length};
 
-use crate::put;
+use crate::{large_buffer, put};
 use claim::claim;
-use libc::STDOUT_FILENO;
 use regions::look_up;
+use std::io;
+use std::io::Write;
 use table::{Table, empty};
 
 // A table, and where the next answer is to be written.
@@ -78,21 +79,27 @@ fn room() -> [u32; 65536] {
 }
 
 // Writes the first n bytes.
-fn show(out: &[u8], n: usize) {
+fn show<W: Write>(output: &mut W, out: &[u8], n: usize) -> io::Result<()> {
     if n > out.len() {
-        return;
+        return Ok(());
     }
-    io::write_all(STDOUT_FILENO, &out[..n]);
+    output.write_all(&out[..n])
 }
 
 // Replays the calls on the picture, from an empty table, and writes all that came of them.
-pub fn replay(pic: &mut [u8], width: usize, height: usize, script: &[u8]) {
+pub fn replay<W: Write>(
+    output: &mut W,
+    pic: &mut [u8],
+    width: usize,
+    height: usize,
+    script: &[u8],
+) -> io::Result<()> {
     let mut stack = room();
-    let mut out = io::large_buffer();
+    let mut out = large_buffer();
     let end = run(pic, width, height, &mut stack, script, &mut out);
     let t = end.table;
     let at = end.at;
     let shown = put::picture(&mut out, at, pic);
     let last = put::table(&mut out, shown, t);
-    show(&out, last);
+    show(output, &out, last)
 }

@@ -1,14 +1,17 @@
-// Replays runs of lookups and claims. Standard input holds runs, one after the other: width, height, and the number of calls (low byte, high
-// byte); then the bitmap, a byte a pixel, of which only the lowest bit counts; then four bytes a call: 0 for a lookup or 1 for a claim, x, y,
-// target. Sides are at most 128, and calls at most 4,096; a run with more is passed over. For each run it writes what each call answered, in 13 bytes; then the picture; then the table's count, and for each place its age and its entry.
+// Replays runs of lookups and claims. Standard input holds runs, one after the other: width, height, and the number of calls (low byte, high byte);
+// then the bitmap, a byte a pixel, of which only the lowest bit counts; then four bytes a call: 0 for a lookup or 1 for a claim, x, y, target. Sides
+// are at most 128, and calls at most 4,096; a run with more is passed over. For each run it writes what each call answered, in 13 bytes; then the
+// picture; then the table's count, and for each place its age and its entry.
 #![tactic(auto)]
 
 mod calls;
 mod put;
 
-ghost use Rattle.std.specs.Prelude.{◌<◌};
+ghost use Rattle.std.specs.Prelude.{◌≡◌, ◌<◌, length};
+ghost use Rattle.std.specs.Counts.{IsPrefixLen};
 
-use libc::STDIN_FILENO;
+use std::io;
+use std::io::{Read, Write};
 
 // Only the lowest bit of a pixel counts.
 fn mask(pic: &mut [u8]) {
@@ -25,70 +28,115 @@ fn wide(byte: u8) -> usize
     byte as usize
 }
 
+// Room for the most bytes of a picture, of its calls, or of what came of them.
+fn large_buffer() -> [u8; 65536]
+    ensures { 65536 ≡ length result }
+{
+    [0u8; 65536]
+}
+
+// The next bytes, at the start of the buffer; none where the input has ended or the read failed.
+fn read_some<R: Read>(input: &mut R, buf: &mut [u8]) -> usize
+    ensures { IsPrefixLen result buf.new }
+{
+    input.read(buf).unwrap_or(0)
+}
+
+// Reads until the buffer is full, the input ends or a read fails, and answers how many bytes now stand at its start.
+fn read_full<R: Read>(input: &mut R, buf: &mut [u8]) -> usize
+    ensures { IsPrefixLen result buf.new }
+{
+    let mut done = 0;
+    while done < buf.len() {
+        let more = read_some(input, &mut buf[done..]);
+        if more == 0 {
+            return done;
+        }
+        done += more;
+    }
+    done
+}
+
 // Reads n bytes into lent room.
-fn load(room: &mut [u8], n: usize) {
+fn load<R: Read>(input: &mut R, room: &mut [u8], n: usize) {
     if n > room.len() {
         return;
     }
-    io::read_full(STDIN_FILENO, &mut room[..n]);
+    read_full(input, &mut room[..n]);
 }
 
 // Replays calls of so many bytes on a bitmap of so many pixels.
-fn replay_in(
+fn replay_in<W: Write>(
+    output: &mut W,
     room: &mut [u8],
     script: &[u8],
     width: usize,
     height: usize,
     pixels: usize,
     length: usize,
-) {
+) -> io::Result<()> {
     if pixels > room.len() {
-        return;
+        return Ok(());
     }
     if length > script.len() {
-        return;
+        return Ok(());
     }
-    calls::replay(&mut room[..pixels], width, height, &script[..length]);
+    calls::replay(
+        output,
+        &mut room[..pixels],
+        width,
+        height,
+        &script[..length],
+    )
 }
 
 // The bitmap and the calls of a run, whose header has been read.
-fn replay_calls(width: usize, height: usize, count: usize) {
+fn replay_calls<R: Read, W: Write>(
+    input: &mut R,
+    output: &mut W,
+    width: usize,
+    height: usize,
+    count: usize,
+) -> io::Result<()> {
     if width > 128 {
-        return;
+        return Ok(());
     }
     if height > 128 {
-        return;
+        return Ok(());
     }
     if count > 4096 {
-        return;
+        return Ok(());
     }
     let pixels = width * height;
     let length = count * 4;
-    let mut room = io::large_buffer();
-    let mut script = io::large_buffer();
-    load(&mut room, pixels);
-    load(&mut script, length);
+    let mut room = large_buffer();
+    let mut script = large_buffer();
+    load(input, &mut room, pixels);
+    load(input, &mut script, length);
     mask(&mut room);
-    replay_in(&mut room, &script, width, height, pixels, length);
+    replay_in(output, &mut room, &script, width, height, pixels, length)
 }
 
 // One run; false at the end of the input.
-fn replay_run() -> bool {
+fn replay_run<R: Read, W: Write>(input: &mut R, output: &mut W) -> io::Result<bool> {
     let mut head = [0u8; 4];
-    if io::read_full(STDIN_FILENO, &mut head) < 4 {
-        return false;
+    if read_full(input, &mut head) < 4 {
+        return Ok(false);
     }
     let count = wide(head[2]) + wide(head[3]) * 256;
-    replay_calls(wide(head[0]), wide(head[1]), count);
-    true
+    replay_calls(input, output, wide(head[0]), wide(head[1]), count)?;
+    Ok(true)
 }
 
-fn main() {
+fn main(rt: HostRuntime) -> io::Result<()> {
+    let mut input = rt.stdin();
+    let mut output = rt.stdout();
     let mut left: u32 = 4000000000;
     while 0 < left {
-        if !replay_run() {
-            return;
+        if !replay_run(&mut input, &mut output)? {
+            return Ok(());
         }
         left -= 1;
     }
+    Ok(())
 }

@@ -7,8 +7,8 @@ ghost use Rattle.regions.specs.declared.ColoredRegion.{ColoredRegion};
 ghost use Rattle.regions.specs.Found.{meaning};
 ghost use Rattle.regions.specs.Lookup.{LookPost};
 
-use libc::STDOUT_FILENO;
 use lookup::look_up;
+use std::io;
 use table::{Table, empty};
 
 // Makes every even pixel of the strip black.
@@ -46,20 +46,19 @@ fn wide(byte: u8) -> u64 {
     byte as u64
 }
 
-fn show(number: u64) {
-    io::print_decimal(STDOUT_FILENO, number);
-    io::write_all(STDOUT_FILENO, b"\n");
+fn show(rt: &impl Print, number: u64) -> io::Result<()> {
+    println!(rt; "{number}")
 }
 
-fn main() {
+fn main(rt: HostRuntime) -> io::Result<()> {
     let mut pic = [0u8; 503];
     let mut stack = [0u32; 503];
     draw(&mut pic);
     let last = look_along(&mut pic, &mut stack, empty());
-    show(wide(pic[0]));
-    show(wide(pic[2]));
-    show(wide(pic[500]));
-    show(wide(pic[502]));
+    show(&rt, wide(pic[0]))?;
+    show(&rt, wide(pic[2]))?;
+    show(&rt, wide(pic[500]))?;
+    show(&rt, wide(pic[502]))?;
     let count = last.n;
-    show(count as u64);
+    show(&rt, count as u64)
 }

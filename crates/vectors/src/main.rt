@@ -18,7 +18,10 @@ mod tables;
 mod tally;
 mod words;
 
-use libc::STDIN_FILENO;
+ghost use Rattle.std.specs.Counts.{IsPrefixLen};
+
+use std::io;
+use std::io::Read;
 use tally::Tally;
 
 // A case's kind, and how many bytes it has; none at the end of the input.
@@ -44,10 +47,32 @@ fn stack_room() -> [u32; 640000] {
     [0u32; 640000]
 }
 
+// The next bytes, at the start of the buffer; none where the input has ended or the read failed.
+fn read_some<R: Read>(input: &mut R, buf: &mut [u8]) -> usize
+    ensures { IsPrefixLen result buf.new }
+{
+    input.read(buf).unwrap_or(0)
+}
+
+// Reads until the buffer is full, the input ends or a read fails, and answers how many bytes now stand at its start.
+fn read_full<R: Read>(input: &mut R, buf: &mut [u8]) -> usize
+    ensures { IsPrefixLen result buf.new }
+{
+    let mut done = 0;
+    while done < buf.len() {
+        let more = read_some(input, &mut buf[done..]);
+        if more == 0 {
+            return done;
+        }
+        done += more;
+    }
+    done
+}
+
 // What the next case starts with.
-fn read_head() -> Head {
+fn read_head<R: Read>(input: &mut R) -> Head {
     let mut head = [0u8; 6];
-    let got = io::read_full(STDIN_FILENO, &mut head);
+    let got = read_full(input, &mut head);
     let kind = tally::kind_of(head[0]);
     head[0] = b' ';
     let length = words::read_word(&head, 0);
@@ -80,7 +105,8 @@ fn is_same(
 }
 
 // Reads the case whose start was read, and compares it.
-fn replay(
+fn replay<R: Read>(
+    input: &mut R,
     head: Head,
     text: &mut [u8],
     pic: &mut [u8],
@@ -91,20 +117,26 @@ fn replay(
     if length > text.len() {
         return false;
     }
-    io::read_full(STDIN_FILENO, &mut text[..length]);
+    read_full(input, &mut text[..length]);
     is_same(head.kind, &text[..length], pic, stack, scratch)
 }
 
 // All cases of the input.
-fn replay_all(text: &mut [u8], pic: &mut [u8], stack: &mut [u32], scratch: &mut [u8]) -> Tally {
+fn replay_all<R: Read>(
+    input: &mut R,
+    text: &mut [u8],
+    pic: &mut [u8],
+    stack: &mut [u32],
+    scratch: &mut [u8],
+) -> Tally {
     let mut now = tally::none();
     let mut left: u32 = 1000000;
     while 0 < left {
-        let head = read_head();
+        let head = read_head(input);
         if !head.there {
             return now;
         }
-        let same = replay(head, text, pic, stack, scratch);
+        let same = replay(input, head, text, pic, stack, scratch);
         now = tally::counted(now, head.kind, same);
         left -= 1;
     }
@@ -112,11 +144,17 @@ fn replay_all(text: &mut [u8], pic: &mut [u8], stack: &mut [u32], scratch: &mut 
 }
 
 // Replays the input, and writes what came of it.
-fn main() {
+fn main(rt: HostRuntime) -> io::Result<()> {
     let mut text = text_room();
     let mut pic = picture_room();
     let mut stack = stack_room();
     let mut scratch = picture_room();
-    let all = replay_all(&mut text, &mut pic, &mut stack, &mut scratch);
-    tally::show_all(all);
+    let all = replay_all(
+        &mut rt.stdin(),
+        &mut text,
+        &mut pic,
+        &mut stack,
+        &mut scratch,
+    );
+    tally::show_all(&rt, all)
 }

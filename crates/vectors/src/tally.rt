@@ -1,5 +1,5 @@
 // How many cases of each kind were compared, and how many differ.
-use libc::STDOUT_FILENO;
+use std::io;
 
 // A count for each of 16 kinds.
 #[derive(Clone, Copy)]
@@ -60,45 +60,42 @@ pub fn kind_of(letter: u8) -> usize {
 }
 
 // Writes what a kind is called.
-fn name(kind: usize) {
+fn name(rt: &impl Print, kind: usize) -> io::Result<()> {
     match kind {
-        0 => io::write_all(STDOUT_FILENO, b"prepare"),
-        1 => io::write_all(STDOUT_FILENO, b"prepare, width 15 or less"),
-        2 => io::write_all(STDOUT_FILENO, b"accept"),
-        3 => io::write_all(STDOUT_FILENO, b"claim"),
-        4 => io::write_all(STDOUT_FILENO, b"run of lookups and claims"),
-        5 => io::write_all(STDOUT_FILENO, b"run of lookups, 503 x 1"),
-        6 => io::write_all(STDOUT_FILENO, b"rank"),
-        7 => io::write_all(STDOUT_FILENO, b"fit"),
-        8 => io::write_all(STDOUT_FILENO, b"cells of a grid"),
-        9 => io::write_all(STDOUT_FILENO, b"detect, one grid"),
-        10 => io::write_all(STDOUT_FILENO, b"detect, several grids"),
-        11 => io::write_all(STDOUT_FILENO, b"detect, no grid"),
-        12 => io::write_all(STDOUT_FILENO, b"detect, 9 x 9"),
-        13 => io::write_all(STDOUT_FILENO, b"detect, refused"),
-        _ => io::write_all(STDOUT_FILENO, b"of no kind"),
-    };
+        0 => print!(rt; "prepare"),
+        1 => print!(rt; "prepare, width 15 or less"),
+        2 => print!(rt; "accept"),
+        3 => print!(rt; "claim"),
+        4 => print!(rt; "run of lookups and claims"),
+        5 => print!(rt; "run of lookups, 503 x 1"),
+        6 => print!(rt; "rank"),
+        7 => print!(rt; "fit"),
+        8 => print!(rt; "cells of a grid"),
+        9 => print!(rt; "detect, one grid"),
+        10 => print!(rt; "detect, several grids"),
+        11 => print!(rt; "detect, no grid"),
+        12 => print!(rt; "detect, 9 x 9"),
+        13 => print!(rt; "detect, refused"),
+        _ => print!(rt; "of no kind"),
+    }
 }
 
 // Writes one line.
-fn show(kind: usize, compared: u64, different: u64) {
-    name(kind);
-    io::write_all(STDOUT_FILENO, b": ");
-    io::print_decimal(STDOUT_FILENO, compared);
-    io::write_all(STDOUT_FILENO, b" compared, ");
-    io::print_decimal(STDOUT_FILENO, different);
-    io::write_all(STDOUT_FILENO, b" different\n");
+fn show(rt: &impl Print, kind: usize, compared: u64, different: u64) -> io::Result<()> {
+    name(rt, kind)?;
+    println!(rt; ": {compared} compared, {different} different")
 }
 
 // Writes a line for each kind that there are cases of.
-pub fn show_all(tally: Tally) {
+pub fn show_all(rt: &impl Print, tally: Tally) -> io::Result<()> {
     let mut kind = 0;
     while kind < 15 {
         let compared = tally.compared[kind];
         let different = tally.different[kind];
         if 0 < compared {
-            show(kind, compared, different);
+            show(rt, kind, compared, different)?;
         }
         kind += 1;
     }
+    Ok(())
 }
