@@ -49,7 +49,7 @@ def declared(root):
     """Old name to new, for what specs/ and proofs/ declare; the helpers of a function's own proof file stand apart, by file."""
     all_, by_file = {}, {}
     for p in files(root, ".antt"):
-        own = os.path.basename(p) in OWN_FILES
+        own = os.path.basename(p) in OWN_FILES and "/proofs/" in p
         text = open(p, encoding="utf-8").read()
         here = {}
         for m in DECL.finditer(text):

@@ -7,8 +7,8 @@ ghost use Rattle.std.specs.Prelude.{◌≡◌, length};
 ghost use Rattle.refusals.specs.First.{first, sound};
 ghost use Rattle.picture.specs.Bitmap.{accept_tests};
 ghost use Rattle.told.specs.Answer.{Told};
-ghost use Rattle.told_points.specs.Answers.{roundAnswer, createAnswer, mapAnswer, unmapAnswer};
-ghost use Rattle.told_lines.specs.Answers.{crossAnswer, scanAnswer};
+ghost use Rattle.told_points.specs.Answers.{round_answer, create_answer, map_answer, unmap_answer};
+ghost use Rattle.told_lines.specs.Answers.{cross_answer, scan_answer};
 ghost use Rattle.told_pictures.specs.Pictures.{verdict_number, Thresholds};
 ghost use Rattle.told_claims.specs.Claims.{Claims};
 ghost use Rattle.told_claims.specs.Rows.{Lists};
@@ -20,7 +20,7 @@ use told_points::{perspective, whole};
 // The whole number nearest to x, halves away from zero; 13 where no i32 holds it.
 #[unsafe(no_mangle)]
 pub extern "C" fn elmetzhur_round(x: f64, out: &mut [i32]) -> u8
-    ensures { Told (roundAnswer x (length out.old)) out.old result out.new }
+    ensures { Told (round_answer x (length out.old)) out.old result out.new }
 {
     whole::round(x, out)
 }
@@ -29,7 +29,7 @@ pub extern "C" fn elmetzhur_round(x: f64, out: &mut [i32]) -> u8
 // it is flat.
 #[unsafe(no_mangle)]
 pub extern "C" fn elmetzhur_create(corners: &[i32], w: f64, h: f64, out: &mut [f64]) -> u8
-    ensures { Told (createAnswer corners.now w h (length out.old)) out.old result out.new }
+    ensures { Told (create_answer corners.now w h (length out.old)) out.old result out.new }
 {
     perspective::create(corners, w, h, out)
 }
@@ -38,7 +38,7 @@ pub extern "C" fn elmetzhur_create(corners: &[i32], w: f64, h: f64, out: &mut [f
 // i32 holds a coordinate.
 #[unsafe(no_mangle)]
 pub extern "C" fn elmetzhur_map(c: &[f64], u: f64, v: f64, out: &mut [i32]) -> u8
-    ensures { Told (mapAnswer c.now u v (length out.old)) out.old result out.new }
+    ensures { Told (map_answer c.now u v (length out.old)) out.old result out.new }
 {
     perspective::map(c, u, v, out)
 }
@@ -46,7 +46,7 @@ pub extern "C" fn elmetzhur_map(c: &[f64], u: f64, v: f64, out: &mut [i32]) -> u
 // The grid's point, u and v, that lies at (x, y).
 #[unsafe(no_mangle)]
 pub extern "C" fn elmetzhur_unmap(c: &[f64], x: i32, y: i32, out: &mut [f64]) -> u8
-    ensures { Told (unmapAnswer c.now x y (length out.old)) out.old result out.new }
+    ensures { Told (unmap_answer c.now x y (length out.old)) out.old result out.new }
 {
     perspective::unmap(c, x, y, out)
 }
@@ -55,7 +55,7 @@ pub extern "C" fn elmetzhur_unmap(c: &[f64], x: i32, y: i32, out: &mut [f64]) ->
 // zero; 255 where they don't cross. The points are pixels of a picture, else 12.
 #[unsafe(no_mangle)]
 pub extern "C" fn elmetzhur_line_intersect(points: &[i32], out: &mut [i32]) -> u8
-    ensures { Told (crossAnswer points.now (length out.old)) out.old result out.new }
+    ensures { Told (cross_answer points.now (length out.old)) out.old result out.new }
 {
     line::line_intersect(points, out)
 }
@@ -63,7 +63,7 @@ pub extern "C" fn elmetzhur_line_intersect(points: &[i32], out: &mut [i32]) -> u
 // Every point of the scan from one end to the other, x before y. No end is further out than 10,000, else 12.
 #[unsafe(no_mangle)]
 pub extern "C" fn elmetzhur_scan(x0: i32, y0: i32, x1: i32, y1: i32, out: &mut [i32]) -> u8
-    ensures { Told (scanAnswer (record { x = x0; y = y0 }) (record { x = x1; y = y1 }) (length out.old)) out.old result out.new }
+    ensures { Told (scan_answer (record { x = x0; y = y0 }) (record { x = x1; y = y1 }) (length out.old)) out.old result out.new }
 {
     scan::scan(x0, y0, x1, y1, out)
 }

@@ -74,20 +74,9 @@ kept_length (Height w n) b pixels = refl
 kept_length (Pixels p) b pixels = kept_in_length p b pixels
 kept_length Broken b pixels = refl
 
--- a state by its number that is not `Pixels`
+-- a state that is not `Pixels`
 abbrev pub Other : Reader → Type 0
-Other r = OneOf (0 ∷ 1 ∷ 2 ∷ 3 ∷ 4 ∷ 5 ∷ 6 ∷ 8 ∷ []) (tag_of the_type r)
-
--- `Pixels` has number 7
-seventh : OneOf (0 ∷ 1 ∷ 2 ∷ 3 ∷ 4 ∷ 5 ∷ 6 ∷ 8 ∷ []) 7 → ⊥
-seventh (inl e) = omega (arith, e)
-seventh (inr (inl e)) = omega (arith, e)
-seventh (inr (inr (inl e))) = omega (arith, e)
-seventh (inr (inr (inr (inl e)))) = omega (arith, e)
-seventh (inr (inr (inr (inr (inl e))))) = omega (arith, e)
-seventh (inr (inr (inr (inr (inr (inl e)))))) = omega (arith, e)
-seventh (inr (inr (inr (inr (inr (inr (inl e))))))) = omega (arith, e)
-seventh (inr (inr (inr (inr (inr (inr (inr e))))))) = omega (arith, e)
+Other r = (p : Body) → r ≡ Pixels p → ⊥
 
 pub other_keeps : (r : Reader) (b : ℕ) (pixels : List ℕ) → Other r → kept r b pixels ≡ pixels
 unfolding kept
@@ -98,7 +87,7 @@ other_keeps BeforeWidth b pixels o = refl
 other_keeps (Width n) b pixels o = refl
 other_keeps (BeforeHeight w) b pixels o = refl
 other_keeps (Height w n) b pixels o = refl
-other_keeps (Pixels p) b pixels o = absurd (seventh o)
+other_keeps (Pixels p) b pixels o = absurd (o p refl)
 other_keeps Broken b pixels o = refl
 
 pub other_ends : (r : Reader) → Other r → ended_in r ≡ Refused
@@ -110,7 +99,7 @@ other_ends BeforeWidth o = refl
 other_ends (Width n) o = refl
 other_ends (BeforeHeight w) o = refl
 other_ends (Height w n) o = refl
-other_ends (Pixels p) o = absurd (seventh o)
+other_ends (Pixels p) o = absurd (o p refl)
 other_ends Broken o = refl
 
 -- bytes in a row keep what a byte keeps

@@ -74,7 +74,7 @@ module _ {n : ℕ} {age : List ℕ} {seen : List Bool} {i : ℕ} (M : Marked n a
       }
     where
       marked : (k : ℕ) (b : Bool) → eqb x k ≡ b → get_or (set seen x true) k false ≡ ltb 0 (times k (x ∷ rest))
-      marked k true e = rw (← eqb-true x k e, eq-eqb x x refl, get_or-set_same seen x true false (omega (arith, M.size)))
+      marked k true e = rw (← eqb-true x k e, eq-eqb x x refl, get_or-set_same seen x true false (omega (arith, M.size)), lt-ltb 0 (suc (times k rest)) (omega arith))
       marked k false e = rw (e, get_or-set_other seen x k true false (λ g. eqb-false x k e (sym g)), M.marks k)
 
 pub mark_end : {n : ℕ} {age : List ℕ} {seen : List Bool} {i : ℕ} → Marked n age seen i → i ≡ 0 → true ≡ once_each n (take n age)

@@ -1,7 +1,7 @@
 // Lines, by two of their points each.
 ghost use Rattle.std.specs.Prelude.{◌≤◌, length};
 ghost use Rattle.told.specs.Answer.{Told};
-ghost use Rattle.told_lines.specs.Answers.{meetValues, crossValues, crossAnswer};
+ghost use Rattle.told_lines.specs.Answers.{meet_values, cross_values, cross_answer};
 
 use lines::Meet;
 use points::Point;
@@ -9,7 +9,7 @@ use told::{place, put};
 
 fn put_meet(m: Meet, out: &mut [i32]) -> u8
     requires { 2 ≤ length out.old }
-    ensures { Told (meetValues m) out.old result out.new }
+    ensures { Told (meet_values m) out.old result out.new }
 {
     match m {
         Meet::At(p) => put::numbers(p.x, p.y, out),
@@ -20,7 +20,7 @@ fn put_meet(m: Meet, out: &mut [i32]) -> u8
 // The crossing, once the four points are pixels.
 fn put_crossing(p0: Point, p1: Point, q0: Point, q1: Point, out: &mut [i32]) -> u8
     requires { 2 ≤ length out.old }
-    ensures { Told (crossValues p0 p1 q0 q1) out.old result out.new }
+    ensures { Told (cross_values p0 p1 q0 q1) out.old result out.new }
 {
     if place::leaves(p0, 0, 799) {
         return 12;
@@ -39,7 +39,7 @@ fn put_crossing(p0: Point, p1: Point, q0: Point, q1: Point, out: &mut [i32]) -> 
 
 // Where two lines cross, once all four points are there and there are places for the crossing.
 pub fn line_intersect(points: &[i32], out: &mut [i32]) -> u8
-    ensures { Told (crossAnswer points.now (length out.old)) out.old result out.new }
+    ensures { Told (cross_answer points.now (length out.old)) out.old result out.new }
 {
     if points.len() < 8 {
         return 3;

@@ -4,7 +4,7 @@ ghost use Rattle.refusals.specs.Finding.{found};
 ghost use Rattle.scans.specs.Scan.{Good};
 ghost use Rattle.scans.specs.Points.{points};
 ghost use Rattle.told.specs.Answer.{Told, these};
-ghost use Rattle.told_lines.specs.Answers.{flat, scanAnswer};
+ghost use Rattle.told_lines.specs.Answers.{flat, scan_answer};
 
 use points::Point;
 use scans::{BresenhamScan, Stepped};
@@ -31,7 +31,7 @@ fn put_points(s: BresenhamScan, out: &mut [i32]) -> u8
 
 // Writes the points from one end to the other, once both are near and there are places for all.
 fn put_scan(from: Point, to: Point, out: &mut [i32]) -> u8
-    ensures { Told (scanAnswer from to (length out.old)) out.old result out.new }
+    ensures { Told (scan_answer from to (length out.old)) out.old result out.new }
 {
     if place::leaves(from, -10000, 10000) {
         return 12;
@@ -49,7 +49,7 @@ fn put_scan(from: Point, to: Point, out: &mut [i32]) -> u8
 
 // Every point of the scan from one end to the other, x before y.
 pub fn scan(x0: i32, y0: i32, x1: i32, y1: i32, out: &mut [i32]) -> u8
-    ensures { Told (scanAnswer (record { x = x0; y = y0 }) (record { x = x1; y = y1 }) (length out.old)) out.old result out.new }
+    ensures { Told (scan_answer (record { x = x0; y = y0 }) (record { x = x1; y = y1 }) (length out.old)) out.old result out.new }
 {
     put_scan(Point { x: x0, y: y0 }, Point { x: x1, y: y1 }, out)
 }

@@ -3,7 +3,7 @@ ghost use Rattle.std.specs.Prelude.{◌≡◌, ◌≤◌, length};
 ghost use Rattle.geometry.specs.Map.{meaning};
 ghost use Rattle.geometry.specs.declared.Sight.TheVariants.{Made};
 ghost use Rattle.told.specs.Answer.{Told};
-ghost use Rattle.told_points.specs.Answers.{perspective_at, sightValues, placeValues, createAnswer, mapAnswer, unmapAnswer};
+ghost use Rattle.told_points.specs.Answers.{perspective_at, sight_values, place_values, create_answer, map_answer, unmap_answer};
 
 use geometry::{Perspective, Sight, Spot};
 use points::Point;
@@ -28,7 +28,7 @@ fn perspective_at(c: &[f64]) -> Perspective
 // A perspective's eight coefficients.
 fn coefficients(p: Perspective, out: &mut [f64]) -> u8
     requires { 8 ≤ length out.old }
-    ensures { Told (sightValues (Made p)) out.old result out.new }
+    ensures { Told (sight_values (Made p)) out.old result out.new }
 {
     out[0] = p.c0;
     out[1] = p.c1;
@@ -43,7 +43,7 @@ fn coefficients(p: Perspective, out: &mut [f64]) -> u8
 
 fn put_sight(s: Sight, out: &mut [f64]) -> u8
     requires { 8 ≤ length out.old }
-    ensures { Told (sightValues s) out.old result out.new }
+    ensures { Told (sight_values s) out.old result out.new }
 {
     match s {
         Sight::Made(p) => coefficients(p, out),
@@ -53,7 +53,7 @@ fn put_sight(s: Sight, out: &mut [f64]) -> u8
 
 fn put_spot(s: Spot, out: &mut [i32]) -> u8
     requires { 2 ≤ length out.old }
-    ensures { Told (placeValues (meaning s)) out.old result out.new }
+    ensures { Told (place_values (meaning s)) out.old result out.new }
 {
     match s {
         Spot::Placed(p) => put::numbers(p.x, p.y, out),
@@ -63,7 +63,7 @@ fn put_spot(s: Spot, out: &mut [i32]) -> u8
 
 // The perspective that takes the corners of a w by h rectangle to four points, once all are there and there are places for it.
 pub fn create(corners: &[i32], w: f64, h: f64, out: &mut [f64]) -> u8
-    ensures { Told (createAnswer corners.now w h (length out.old)) out.old result out.new }
+    ensures { Told (create_answer corners.now w h (length out.old)) out.old result out.new }
 {
     if corners.len() < 8 {
         return 3;
@@ -80,7 +80,7 @@ pub fn create(corners: &[i32], w: f64, h: f64, out: &mut [f64]) -> u8
 
 // The pixel's place at which the grid's point (u, v) lies.
 pub fn map(c: &[f64], u: f64, v: f64, out: &mut [i32]) -> u8
-    ensures { Told (mapAnswer c.now u v (length out.old)) out.old result out.new }
+    ensures { Told (map_answer c.now u v (length out.old)) out.old result out.new }
 {
     if c.len() < 8 {
         return 3;
@@ -93,7 +93,7 @@ pub fn map(c: &[f64], u: f64, v: f64, out: &mut [i32]) -> u8
 
 // The grid's point that lies at (x, y).
 pub fn unmap(c: &[f64], x: i32, y: i32, out: &mut [f64]) -> u8
-    ensures { Told (unmapAnswer c.now x y (length out.old)) out.old result out.new }
+    ensures { Told (unmap_answer c.now x y (length out.old)) out.old result out.new }
 {
     if c.len() < 8 {
         return 3;

@@ -1,14 +1,14 @@
 // Rounding.
 ghost use Rattle.std.specs.Prelude.{◌≤◌, length};
 ghost use Rattle.told.specs.Answer.{Told};
-ghost use Rattle.told_points.specs.Answers.{wholeValues, roundAnswer};
+ghost use Rattle.told_points.specs.Answers.{whole_values, round_answer};
 
 use rounding::Whole;
 use told::put;
 
 fn put_whole(n: Whole, out: &mut [i32]) -> u8
     requires { 1 ≤ length out.old }
-    ensures { Told (wholeValues n) out.old result out.new }
+    ensures { Told (whole_values n) out.old result out.new }
 {
     match n {
         Whole::At(z) => put::number(z, out),
@@ -18,7 +18,7 @@ fn put_whole(n: Whole, out: &mut [i32]) -> u8
 
 // The whole number nearest to x, once there is a place for it.
 pub fn round(x: f64, out: &mut [i32]) -> u8
-    ensures { Told (roundAnswer x (length out.old)) out.old result out.new }
+    ensures { Told (round_answer x (length out.old)) out.old result out.new }
 {
     if out.len() < 1 {
         return 3;

@@ -18,4 +18,4 @@ returns-in-Pixels c file pixels R =
 
 pub returns-in_default : goal.returns-in_default
 returns-in_default c file pixels R =
-    told file pixels c.args.reader Refused (ap ended_in (sym c.step-end.ensures) ∙ other_ends c.step-end.result c.in_default.in_default-own.keys2) R
+    told file pixels c.args.reader Refused (ap ended_in (sym c.step-end.ensures) ∙ other_ends c.step-end.result c.in_default.not-Pixels) R

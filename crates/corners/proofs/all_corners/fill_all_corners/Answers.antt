@@ -4,7 +4,7 @@ use borrow.Author.Rules.{rules}
 use lib.ListN.{length}
 use Rattle.fill.proofs.Filling.{task_of, room_some}
 use Rattle.fill.proofs.Measure.{to_do}
-use Rattle.corners.specs.Rows.{by_ends}
+use Rattle.corners.specs.Rows.{by_ends, Drawn}
 use Rattle.corners.specs.Scores.{Direction}
 use Rattle.corners.specs.Finders.{all_corners_see}
 use Rattle.corners.specs.declared.all_corners.AllCornerFinder.{AllCornerFinder}
@@ -24,7 +24,8 @@ fill_step-requires c = looking_asks c.loop-sp.invariant c.loop-sp-test.true
 
 pub update-found-requires : goal.update-found-requires
 update-found-requires c =
-    looking_row c.loop-sp.invariant c.loop-sp-test.true c.fill_step.ensures c.in-Met.is (search rules) (search rules)
+    let both : Ready c.loop-sp.found × Drawn c.in-Met.row = looking_row c.loop-sp.invariant c.loop-sp-test.true c.fill_step.ensures c.in-Met.is (search rules) (search rules) in
+    record { fact_1 = both.0; fact_2 = both.1 }
 
 pub loop-sp-smaller-in-Met : goal.loop-sp-smaller-in-Met
 loop-sp-smaller-in-Met c =

@@ -5,7 +5,7 @@ use lib.ListN.{length}
 use Rattle.points.specs.Range.{Within}
 use Rattle.fill.proofs.Filling.{task_of, room_some}
 use Rattle.fill.proofs.Measure.{to_do}
-use Rattle.corners.specs.Rows.{by_ends}
+use Rattle.corners.specs.Rows.{by_ends, Drawn}
 use Rattle.corners.specs.Finders.{first_corner_sees}
 use Rattle.corners.specs.declared.first_corner.FirstCornerFinder.{FirstCornerFinder}
 use Rattle.corners.proofs.Looking.{Looking, looking-begun, looking_asks, looking_row, looking_met, looking_met_less, looking_passed, looking_passed_less, looking_end}
@@ -24,7 +24,8 @@ fill_step-requires c = looking_asks c.loop-sp.invariant c.loop-sp-test.true
 
 pub update-found-requires : goal.update-found-requires
 update-found-requires c =
-    looking_row c.loop-sp.invariant c.loop-sp-test.true c.fill_step.ensures c.in-Met.is (search rules) (search rules)
+    let both : Ready c.loop-sp.found × Drawn c.in-Met.row = looking_row c.loop-sp.invariant c.loop-sp-test.true c.fill_step.ensures c.in-Met.is (search rules) (search rules) in
+    record { fact_1 = both.0; fact_2 = both.1 }
 
 pub loop-sp-smaller-in-Met : goal.loop-sp-smaller-in-Met
 loop-sp-smaller-in-Met c =

@@ -12,7 +12,7 @@ use Rattle.fitness.proofs.alignment.fitness_column.Given as goal
 
 abbrev pub invariant-loop-j : goal.invariant-loop-j
 invariant-loop-j l =
-    (l.j ≤ l.n - 1) × Scores (score_of l.pic l.width l.height l.c (each l.j (λ l.j. pattern l.cx (position_of l.version (1 + l.j))))) (225 * l.j) l.score
+    (l.j ≤ l.n - 1) × Scores (score_of l.pic l.width l.height l.c (each l.j (λ j. pattern l.cx (position_of l.version (1 + j))))) (225 * l.j) l.score
 
 abbrev pub decreases-loop-j : goal.decreases-loop-j
 decreases-loop-j l = l.n - l.j

@@ -12,7 +12,7 @@ use Rattle.fitness.proofs.alignment.fitness_columns.Given as goal
 
 abbrev pub invariant-loop-i : goal.invariant-loop-i
 invariant-loop-i l =
-    (l.i ≤ l.n - 1) × Scores (score_of l.pic l.width l.height l.c (each l.i (λ l.i. column l.version (position_of l.version (1 + l.i))))) (1350 * l.i) l.score
+    (l.i ≤ l.n - 1) × Scores (score_of l.pic l.width l.height l.c (each l.i (λ i. column l.version (position_of l.version (1 + i))))) (1350 * l.i) l.score
 
 abbrev pub decreases-loop-i : goal.decreases-loop-i
 decreases-loop-i l = l.n - l.i

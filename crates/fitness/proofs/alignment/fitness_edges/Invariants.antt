@@ -12,7 +12,7 @@ use Rattle.fitness.proofs.alignment.fitness_edges.Given as goal
 
 abbrev pub invariant-loop-i : goal.invariant-loop-i
 invariant-loop-i l =
-    (l.i ≤ l.n - 2) × Scores (score_of l.pic l.width l.height l.c (each l.i (λ l.i. edge (position_of l.version (1 + l.i))))) (450 * l.i) l.score
+    (l.i ≤ l.n - 2) × Scores (score_of l.pic l.width l.height l.c (each l.i (λ i. edge (position_of l.version (1 + i))))) (450 * l.i) l.score
 
 abbrev pub decreases-loop-i : goal.decreases-loop-i
 decreases-loop-i l = l.n - l.i

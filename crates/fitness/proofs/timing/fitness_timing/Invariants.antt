@@ -11,7 +11,7 @@ use Rattle.fitness.proofs.timing.fitness_timing.Given as goal
 
 abbrev pub invariant-loop-i : goal.invariant-loop-i
 invariant-loop-i l =
-    (l.i ≤ l.size - 14) × Scores (score_of l.pic l.width l.height l.c (each l.i (λ l.i. crossing (7 + l.i)))) (18 * l.i) l.score
+    (l.i ≤ l.size - 14) × Scores (score_of l.pic l.width l.height l.c (each l.i (λ i. crossing (7 + i)))) (18 * l.i) l.score
 
 abbrev pub decreases-loop-i : goal.decreases-loop-i
 decreases-loop-i l = l.size - l.i

@@ -13,4 +13,4 @@ unfolding kept
 returns-in-Pixels c = rw c.in-Pixels.is c.keep_in.ensures
 
 pub returns-in_default : goal.returns-in_default
-returns-in_default c = sym (other_keeps c.args.reader _ _ c.in_default.in_default-own.keys2)
+returns-in_default c = sym (other_keeps c.args.reader _ _ c.in_default.not-Pixels)

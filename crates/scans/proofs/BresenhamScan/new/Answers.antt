@@ -52,7 +52,7 @@ start-requires c =
     let down : to_z w32 (of_z w32 c.diff-down.result) ≡ c.args.to.y -ℤ c.args.from.y = read_back c.diff-down.result c.diff-down.type_inv ∙ rw (qy, py) at c.diff-down.ensures in
     let across_low : nat_abs (c.args.to.x -ℤ c.args.from.x) ≤ farthest + farthest = let h = size_sub c.args.to.x c.args.from.x in omega arith in
     let down_low : nat_abs (c.args.to.y -ℤ c.args.from.y) ≤ farthest + farthest = let h = size_sub c.args.to.y c.args.from.y in omega arith in
-    record { fact_1 = rw (across, down) (across_low); fact_2 = rw (across, down) (down_low) }
+    record { fact_1 = rw across across_low; fact_2 = rw down down_low }
 
 pub returns-then-w-h : goal.returns-then-w-h
 unfolding scan_of
@@ -78,7 +78,7 @@ start-requires-2 c =
     let down : to_z w32 (of_z w32 c.diff-down.result) ≡ c.args.to.y -ℤ c.args.from.y = read_back c.diff-down.result c.diff-down.type_inv ∙ rw (qy, py) at c.diff-down.ensures in
     let down_low : nat_abs (c.args.to.y -ℤ c.args.from.y) ≤ farthest + farthest = let h = size_sub c.args.to.y c.args.from.y in omega arith in
     let across_low : nat_abs (c.args.to.x -ℤ c.args.from.x) ≤ farthest + farthest = let h = size_sub c.args.to.x c.args.from.x in omega arith in
-    record { fact_1 = rw (across, down) (down_low); fact_2 = rw (across, down) (across_low) }
+    record { fact_1 = rw down down_low; fact_2 = rw across across_low }
 
 pub returns : goal.returns
 unfolding scan_of

@@ -2,7 +2,7 @@
 use native.Mathlib.Omega.{arith}
 use lib.ListN.{length-set}
 use borrow.Author.Rules.{rules}
-use Rattle.told_points.specs.Answers.{sightValues}
+use Rattle.told_points.specs.Answers.{sight_values}
 use Rattle.told.proofs.Tell.{tell_values, stored_eight}
 use Rattle.told_points.proofs.perspective.coefficients.Goals as goal
 
@@ -28,6 +28,6 @@ pub bounds-out-7 : goal.bounds-out-7
 bounds-out-7 c = simp length-set (omega arith)
 
 pub returns : goal.returns
-unfolding sightValues
+unfolding sight_values
 returns c =
     tell_values _ (stored_eight c.args.p.c0 c.args.p.c1 c.args.p.c2 c.args.p.c3 c.args.p.c4 c.args.p.c5 c.args.p.c6 c.args.p.c7 c.args.out.now c.requires)
