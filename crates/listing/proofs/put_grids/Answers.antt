@@ -18,8 +18,8 @@ put_grid-next-requires c =
 
 pub loop-k-preserved : goal.loop-k-preserved
 loop-k-preserved c =
-    let long : length c.args.t ≡ 31 = search rules in
-    (lines_next c.args.t c.loop-k.k _ (omega (arith, c.loop-k-test.true, long, c.requires.0)) c.loop-k.invariant.0 (rw c.line_of.ensures at c.put_grid-next.ensures), omega arith, omega (arith, c.loop-k.invariant.2, c.put_grid-next.auto.out))
+    let long : length c.args.grids ≡ 31 = search rules in
+    (lines_next c.args.grids c.loop-k.k _ (omega (arith, c.loop-k-test.true, long, c.requires.0)) c.loop-k.invariant.0 (rw c.line_of.ensures at c.put_grid-next.ensures), omega arith, omega (arith, c.loop-k.invariant.2, c.put_grid-next.auto.out))
 
 pub returns : goal.returns
 returns c =

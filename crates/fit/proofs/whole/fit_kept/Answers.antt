@@ -7,7 +7,7 @@ use lib.ListN.{length, take, drop, length-append}
 use lib.Seq.{take-length}
 use borrow.Author.Rules.{rules}
 use Rattle.fit.specs.Fit.{put_back, stands}
-use Rattle.fit.proofs.Scratch.{kept_front}
+use Rattle.fit.proofs.Scratch.{kept_front, front_written}
 use Rattle.fit.proofs.whole.fit_kept.Goals as goal
 
 pub put_back-requires : goal.put_back-requires
@@ -18,10 +18,7 @@ put_back-requires c =
 pub returns-then-is_refused : goal.returns-then-is_refused
 returns-then-is_refused c =
     let p : List ℕ = c.args.pic.now in
-    let whole : length p - 0 ≡ length p = omega arith in
-    let kept : c.copy_from_slice.new.self ++ drop (length p - 0) c.args.scratch.now ≡ take (length p) p ++ drop (length p) c.args.scratch.now =
-      rw (c.copy_from_slice.ensures.after, whole, take-length p)
-    in
+    let kept = front_written p c.args.scratch.now c.copy_from_slice.new.self c.copy_from_slice.ensures.after in
     let back = c.put_back.ensures ∙ kept_front p c.from_group-fitted.new.pic c.args.scratch.now _ c.from_group-fitted.auto.pic kept in
     put_back (sym c.is_refused.ensures ∙ c.if-is_refused.true) _ _ c.from_group-fitted.ensures back refl
 
