@@ -14,7 +14,7 @@ use Rattle.locations.proofs.pass.fit_all.Goals as goal
 
 pub loop-k-init : goal.loop-k-init
 loop-k-init c =
-    let entries : length c.args.table.entries ≡ 251 = sym (length-map c.args.table.entries _) ∙ c.well_formed.1.1.1.1.0.1.1.0.1.0.1 in
+    let entries : length c.args.table.entries ≡ 251 = c.well_formed.1.1.1.1.0.1.1.0.1.0.1 in
     let age : length c.args.table.age ≡ 251 = search rules in
     let proper : Proper c.args.table c.args.width c.args.height = record { entries = entries; age = age; sound = (sound_exact c.args.table c.args.width c.args.height (omega (arith, age))).0 c.requires.0.sound } in
     (groups_begin c.no_locations-sofar.result (rw c.no_locations-sofar.ensures.2 (proper)) c.no_locations-sofar.ensures.0 c.no_locations-sofar.ensures.1 refl, omega arith, refl, refl)
