@@ -16,10 +16,12 @@ loop-i-init c = (omega arith, refl)
 
 pub loop-i-preserved : goal.loop-i-preserved
 loop-i-preserved c =
-    let one = pair_of (get_or c.args.sets.all c.loop-i.i no_set) in
-    let long : length (map pair_of (take c.loop-i.i c.args.sets.all)) ≡ c.loop-i.i = length-map (take c.loop-i.i c.args.sets.all) pair_of ∙ length-take-le c.loop-i.i c.args.sets.all (omega arith) in
-    let next : map pair_of (take (c.loop-i.i + 1) c.args.sets.all) ≡ map pair_of (take c.loop-i.i c.args.sets.all) ++ (one ∷ []) = rw (add-one, take-suc c.args.sets.all c.loop-i.i no_set (omega arith), map-append) in
-    (omega arith, rw next (laid_more 992 c.loop-i.pairs (map pair_of (take c.loop-i.i c.args.sets.all)) one no_pair c.loop-i.i long (omega arith) c.loop-i.invariant.1))
+    let i = c.loop-i.i in
+    let all = c.args.sets.all in
+    let one = pair_of (get_or all i no_set) in
+    let long : length (map pair_of (take i all)) ≡ i = length-map (take i all) pair_of ∙ length-take-le i all (omega arith) in
+    let next : map pair_of (take (i + 1) all) ≡ map pair_of (take i all) ++ (one ∷ []) = rw (add-one, take-suc all i no_set (omega arith), map-append) in
+    (omega arith, rw next (laid_more 992 c.loop-i.pairs (map pair_of (take i all)) one no_pair i long (omega arith) c.loop-i.invariant.1))
 
 pub returns : goal.returns
 returns c =

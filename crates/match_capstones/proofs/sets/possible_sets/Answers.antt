@@ -22,7 +22,7 @@ pub loop-i-preserved-then-j-vns : goal.loop-i-preserved-then-j-vns
 unfolding flat_map
 loop-i-preserved-then-j-vns c =
     let second : List Neighbor = take c.args.vns.n c.args.vns.all in
-    let next = flat_map_next (sets_of (second)) c.args.hns.all c.loop-i.i no_neighbor (omega arith) in
+    let next = flat_map_next (sets_of second) c.args.hns.all c.loop-i.i no_neighbor (omega arith) in
     (omega arith, omega arith, (λ _. refl), rw (add-one c.loop-i.i, next) (holds_same (rw c.if-j-vns.true at c.loop-i.invariant.3)))
 
 pub loop-i-preserved-then-not-is_viable : goal.loop-i-preserved-then-not-is_viable
@@ -31,7 +31,7 @@ loop-i-preserved-then-not-is_viable c =
     let hn = get_or c.args.hns.all c.loop-i.i no_neighbor in
     let vn = get_or c.args.vns.all c.loop-i.j no_neighbor in
     let drops : viable (set_of hn vn).score ≡ false = ap viable (sym c.score_of-score.ensures) ∙ sym c.is_viable.ensures ∙ c.if-not-is_viable.true in
-    let ahead = made (take c.loop-i.i c.args.hns.all) (second) in (
+    let ahead = made (take c.loop-i.i c.args.hns.all) second in (
       omega arith,
       omega arith,
       (λ high. absurd (omega arith)),
@@ -45,9 +45,9 @@ offset_bounds-all-n c =
     let first = take c.loop-i.i c.args.hns.all in
     let part = take c.loop-i.j c.args.vns.all in
     let i-long : length first ≡ c.loop-i.i = length-take-le c.loop-i.i c.args.hns.all (omega arith) in
-    let v-long : length (second) ≡ c.args.vns.n = length-take-le c.args.vns.n c.args.vns.all (omega arith) in
+    let v-long : length second ≡ c.args.vns.n = length-take-le c.args.vns.n c.args.vns.all (omega arith) in
     let j-long : length part ≡ c.loop-i.j = length-take-le c.loop-i.j c.args.vns.all (omega arith) in
-    omega (arith, c.loop-i.invariant.3.count, room_for_one first (second) part (get_or c.args.hns.all c.loop-i.i no_neighbor) (omega arith) (omega arith))
+    omega (arith, c.loop-i.invariant.3.count, room_for_one first second part (get_or c.args.hns.all c.loop-i.i no_neighbor) (omega arith) (omega arith))
     in
     omega (arith, fits)
 
@@ -58,9 +58,9 @@ bounds-all-n c =
     let first = take c.loop-i.i c.args.hns.all in
     let part = take c.loop-i.j c.args.vns.all in
     let i-long : length first ≡ c.loop-i.i = length-take-le c.loop-i.i c.args.hns.all (omega arith) in
-    let v-long : length (second) ≡ c.args.vns.n = length-take-le c.args.vns.n c.args.vns.all (omega arith) in
+    let v-long : length second ≡ c.args.vns.n = length-take-le c.args.vns.n c.args.vns.all (omega arith) in
     let j-long : length part ≡ c.loop-i.j = length-take-le c.loop-i.j c.args.vns.all (omega arith) in
-    omega (arith, c.loop-i.invariant.3.count, room_for_one first (second) part (get_or c.args.hns.all c.loop-i.i no_neighbor) (omega arith) (omega arith))
+    omega (arith, c.loop-i.invariant.3.count, room_for_one first second part (get_or c.args.hns.all c.loop-i.i no_neighbor) (omega arith) (omega arith))
     in
     omega (arith, fits)
 
@@ -71,9 +71,9 @@ overflow_add-n c =
     let first = take c.loop-i.i c.args.hns.all in
     let part = take c.loop-i.j c.args.vns.all in
     let i-long : length first ≡ c.loop-i.i = length-take-le c.loop-i.i c.args.hns.all (omega arith) in
-    let v-long : length (second) ≡ c.args.vns.n = length-take-le c.args.vns.n c.args.vns.all (omega arith) in
+    let v-long : length second ≡ c.args.vns.n = length-take-le c.args.vns.n c.args.vns.all (omega arith) in
     let j-long : length part ≡ c.loop-i.j = length-take-le c.loop-i.j c.args.vns.all (omega arith) in
-    omega (arith, c.loop-i.invariant.3.count, room_for_one first (second) part (get_or c.args.hns.all c.loop-i.i no_neighbor) (omega arith) (omega arith))
+    omega (arith, c.loop-i.invariant.3.count, room_for_one first second part (get_or c.args.hns.all c.loop-i.i no_neighbor) (omega arith) (omega arith))
     in
     omega (arith, fits)
 
@@ -84,17 +84,19 @@ loop-i-preserved c =
     let first = take c.loop-i.i c.args.hns.all in
     let part = take c.loop-i.j c.args.vns.all in
     let i-long : length first ≡ c.loop-i.i = length-take-le c.loop-i.i c.args.hns.all (omega arith) in
-    let v-long : length (second) ≡ c.args.vns.n = length-take-le c.args.vns.n c.args.vns.all (omega arith) in
+    let v-long : length second ≡ c.args.vns.n = length-take-le c.args.vns.n c.args.vns.all (omega arith) in
     let j-long : length part ≡ c.loop-i.j = length-take-le c.loop-i.j c.args.vns.all (omega arith) in
-    omega (arith, c.loop-i.invariant.3.count, room_for_one first (second) part (get_or c.args.hns.all c.loop-i.i no_neighbor) (omega arith) (omega arith))
+    omega (arith, c.loop-i.invariant.3.count, room_for_one first second part (get_or c.args.hns.all c.loop-i.i no_neighbor) (omega arith) (omega arith))
     in
     let hn = get_or c.args.hns.all c.loop-i.i no_neighbor in
     let vn = get_or c.args.vns.all c.loop-i.j no_neighbor in
+    let ahead = made (take c.loop-i.i c.args.hns.all) second in
     let keeps : viable (set_of hn vn).score ≡ true = ap viable (sym c.score_of-score.ensures) ∙ sym c.is_viable.ensures ∙ c.if-not-is_viable.false in (
       omega arith,
       omega arith,
       (λ high. absurd (omega arith)),
-      rw c.score_of-score.ensures (holds_one (one_set hn) (made (take c.loop-i.i c.args.hns.all) (second)) c.args.vns.all c.loop-i.j no_neighbor c.loop-i.invariant.3 (omega arith) (set_of hn vn) (fits) (rw keeps)),
+      rw c.score_of-score.ensures
+          (holds_one (one_set hn) ahead c.args.vns.all c.loop-i.j no_neighbor c.loop-i.invariant.3 (omega arith) (set_of hn vn) fits (rw keeps)),
     )
 
 pub returns : goal.returns
