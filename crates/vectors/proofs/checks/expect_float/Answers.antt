@@ -1,0 +1,6 @@
+-- `expect_float` expects the bits. Assumes nothing.
+use borrow.Author.Rules.{rules}
+use Rattle.vectors.proofs.checks.expect_float.Goals as goal
+
+pub returns : goal.returns
+returns c = rw (c.expect.ensures, c.bits_of.ensures)

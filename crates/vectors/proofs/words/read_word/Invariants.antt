@@ -1,0 +1,16 @@
+-- `read_word` reads digit after digit: the digits that are left lead where the whole word leads. Assumes nothing.
+use Prim.Native.Nat.{◌≤◌}
+use native.Mathlib.Omega.{arith}
+use mathlib.Core.Path.{◌≡◌, sym, ◌∙◌}
+use lib.ListN.{length}
+use borrow.Author.Rules.{rules}
+use borrow.Author.Tests.{le-leb, lt-leb}
+use Rattle.vectors.specs.Words.{read_on, word_at}
+use Rattle.vectors.proofs.Digits.{ends_at, ends_here, goes_on, Room, room_now, room_on}
+use Rattle.vectors.proofs.words.read_word.Given as goal
+
+abbrev pub invariant-loop-left : goal.invariant-loop-left
+invariant-loop-left l = (l.left ≤ 16) × Room l.left l.value × (read_on l.left l.text l.value l.next ≡ word_at l.text l.at)
+
+abbrev pub decreases-loop-left : goal.decreases-loop-left
+decreases-loop-left l = l.left
