@@ -4,7 +4,7 @@ use mathlib.Core.Path.{◌≡◌, refl, ap, sym, ◌∙◌}
 use mathlib.Core.Bool.{cond}
 use lib.Dec.{eqb}
 use Rattle.refusals.specs.Numbers.{number_of}
-use Rattle.refusals.specs.Finding.{Finding, found, refused, refused_by}
+use Rattle.refusals.specs.Finding.{Finding, refused_by}
 use Rattle.refusals.specs.declared.Refusal.{Refusal}
 use Rattle.refusals.specs.declared.Refusal.TheVariants.{Size, Length, Room, Byte, Outside, White, Same, Target, Table, Number, Stones, Far, Unplaced, Timing, Turned, Index, File}
 

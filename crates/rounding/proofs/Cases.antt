@@ -1,17 +1,16 @@
 -- What each test of `nearest` says of a float, by cases on it. Assumes nothing.
-use Prim.Native.Nat.{ℕ, zero, suc, ◌+◌, ◌-◌, ◌*◌, ◌/◌, ◌^◌, ◌≤◌, ◌<◌}
+use Prim.Native.Nat.{ℕ, suc, ◌+◌, ◌*◌, ◌^◌, ◌≤◌, ◌<◌}
 use native.Mathlib.Nat.{mul-pos, div-lt_iff_lt-mul, le-div_iff_mul-le}
 use native.Mathlib.Omega.{arith}
-use mathlib.Core.Path.{◌≡◌, refl, sym, ap, ◌∙◌, subst}
-use mathlib.Core.Bool.{Bool, true, false, cond, not, ◌&&◌, ◌||◌, beq, true≢false}
-use lib.Dec.{T, ltb, leb, eqb, lt→ltb, le→leb, lit<}
-use lib.IntN.{ℤ, pos, negsuc, neg_ℤ}
+use mathlib.Core.Path.{◌≡◌, refl, sym, subst}
+use mathlib.Core.Bool.{true, false, true≢false}
+use lib.Dec.{T, lt→ltb, lit<}
+use lib.IntN.{pos, negsuc, neg_ℤ}
 use lib.Ieee.{Float, nan, inf, fin, up, down, lt, eq, ne, neg}
 use lib.Ieee.Compare.{differs_from_itself}
 use lib.Ieee.Fits.{down_pos}
-use borrow.Author.Tests.{ltb-true, ltb-false, leb-true, lt-ltb, le-ltb, le-leb, lt-leb, eqb-true, eqb-false}
+use borrow.Author.Tests.{ltb-true, ltb-false, lt-ltb, le-ltb, le-leb, lt-leb}
 use Rattle.rounding.specs.Nearest.{half_up, size_of, nearest_of, held}
-use Rattle.rounding.specs.declared.Whole.{Whole}
 use Rattle.rounding.specs.declared.Whole.TheVariants.{At, Off}
 
 abbrev pub nought : Float

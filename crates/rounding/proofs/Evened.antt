@@ -6,7 +6,7 @@ use native.Mathlib.Omega.{arith}
 use mathlib.Core.Path.{◌≡◌, sym, ap, ◌∙◌, subst}
 use mathlib.Core.Bool.{Bool, true, false, not, true≢false}
 use lib.Arith.{lt_of_le-ne}
-use lib.Dec.{T, is_le, compare_is_eq, ltb, leb, eqb, ltb→lt, leb→le, nleb→lt, eqb→eq, eqb_refl, lit<, lit≤}
+use lib.Dec.{T, is_le, compare_is_eq, eqb, ltb→lt, leb→le, nleb→lt, eqb→eq, eqb_refl, lit<, lit≤}
 use lib.IntN.{ℤ, pos, negsuc}
 use lib.Pow.{pow_mono}
 use lib.Ieee.{Float, nan, inf, fin, binary64, up, down, size, nearest, round, sum, add, sub, neg, lt, whole, in_unsigned, to_unsigned}

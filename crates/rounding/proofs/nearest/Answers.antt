@@ -1,13 +1,11 @@
 -- `rounding::nearest` meets its contract, by its tests (`proofs/Cases.antt`). Assumes nothing.
-use borrow.Author.Rules.{rules}
-use mathlib.Core.Path.{◌≡◌, refl, ap, ◌∙◌, sym, subst}
-use lib.Dec.{T}
+use mathlib.Core.Path.{ap, ◌∙◌, sym}
 use lib.Ieee.{of_bits, neg}
 use Prim.Native.Nat.{ℕ}
 use lib.IntN.{pos, neg_ℤ}
 use mir.Syntax.{w32}
 use mir.Facts.{to_z-of_z}
-use Rattle.rounding.specs.declared.Whole.TheVariants.{At, Off}
+use Rattle.rounding.specs.declared.Whole.TheVariants.{At}
 use Rattle.rounding.proofs.Cases.{Up, up_at, up_off, Down, down_at_lem, down_off, rest_nan, rest_zero}
 use Rattle.rounding.proofs.nearest.Goals as goal
 

@@ -1,5 +1,4 @@
 -- `rounding::plus` meets its contract. Assumes nothing.
-use borrow.Author.Rules.{rules}
 use mir.Syntax.{w32}
 use mir.Facts.{to_z_pos}
 use Rattle.rounding.proofs.plus.Goals as goal
