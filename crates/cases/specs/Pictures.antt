@@ -5,7 +5,6 @@ use Rattle.pieces.specs.Piece.{Piece}
 use Rattle.picture.specs.Colour.{colour_of}
 use Rattle.picture.specs.declared.PixelColor.TheVariants.{Tmp1, Discarded}
 use Rattle.prepare.specs.Threshold.{span, sums, thresholded}
-use Rattle.fill.specs.declared.paint.Counts.{Counts}
 use Rattle.claim.specs.Outcome.{Outcome}
 use Rattle.cases.specs.Case.{Case, ◌answers◌, states}
 

@@ -1,9 +1,9 @@
 -- What the three fills find in their piece: a pixel of it, and none lies farther. Assumes nothing.
-use Prim.Native.Nat.{ℕ, ◌*◌, ◌≤◌}
+use Prim.Native.Nat.{ℕ}
 use native.Mathlib.Omega.{arith}
-use mathlib.Core.Path.{◌≡◌, refl, sym, ap, ◌∙◌, subst}
-use mathlib.Core.List.{List, [], ◌∷◌, ◌++◌}
-use mathlib.Core.Logic.{◌⊎◌, inl, inr, ⊎_elim}
+use mathlib.Core.Path.{◌≡◌, refl, sym, subst}
+use mathlib.Core.List.{List, [], ◌∷◌}
+use mathlib.Core.Logic.{inl, inr, ⊎_elim}
 use lib.IntN.{ℤ}
 use lib.Signed.{◌≤ℤ◌}
 use Rattle.points.specs.Range.{Within}
@@ -17,7 +17,7 @@ use Rattle.pieces.proofs.Counting.{mem_either, mem_after}
 use Rattle.pieces.proofs.Chains.{last_of}
 use Rattle.fill.specs.Order.{State, rows_met}
 use Rattle.fill.specs.Fold.{folded}
-use Rattle.fill.proofs.Underway.{Task, Valid, Underway, covering}
+use Rattle.fill.proofs.Underway.{Valid, Underway, covering}
 use Rattle.fill.proofs.Whole.{piece_covered}
 use Rattle.fill.proofs.Filling.{task_of, filled_is, underway_end}
 use Rattle.fill.proofs.Laws.{rows_met_lem}

@@ -1,5 +1,5 @@
 -- What the loop of a fill that looks for corners knows at its head, and what each turn makes of it: one invariant and a law for each place of the loop, for any finder. Assumes nothing.
-use Prim.Native.Nat.{ℕ, ◌<◌, ◌≤◌}
+use Prim.Native.Nat.{ℕ, ◌<◌}
 use native.Mathlib.Omega.{arith}
 use mathlib.Core.Path.{◌≡◌, refl, sym, subst}
 use mathlib.Core.List.{List, [], ◌∷◌}

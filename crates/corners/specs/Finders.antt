@@ -1,9 +1,8 @@
 -- What each fill that looks for corners knows, and what a point that it sees adds. The rules are taken from the Rust. Assumes nothing.
-use Rattle.std.specs.Prelude.{ℤ, pos, negsuc}
+use Rattle.std.specs.Prelude.{pos, negsuc}
 use Rattle.points.specs.declared.Point.{Point}
 use Rattle.corners.specs.Scores.{distance_of, along_of, across_of, behind_of, left_of, line_from}
 use Rattle.corners.specs.Best.{raised, scored}
-use Rattle.corners.specs.declared.places.Best.{Best}
 use Rattle.corners.specs.declared.first_corner.FirstCornerFinder.{FirstCornerFinder}
 use Rattle.corners.specs.declared.all_corners.AllCornerFinder.{AllCornerFinder}
 use Rattle.corners.specs.declared.left_most.LeftMostFinder.{LeftMostFinder}

@@ -6,8 +6,7 @@ use lib.IntN.{ℤ}
 use lib.Ieee.{Float}
 use mir.Syntax.{w32}
 use mir.Val.{SFits}
-use Rattle.refusals.specs.Finding.{Finding, found, refused, refused_by}
-use Rattle.refusals.specs.declared.Refusal.TheVariants as refusal
+use Rattle.refusals.specs.Finding.{found, refused}
 use Rattle.rounding.specs.Nearest.{Rounds, nearest_of}
 use Rattle.rounding.specs.declared.Whole.{Whole}
 use Rattle.rounding.specs.declared.Whole.TheVariants.{At, Off}

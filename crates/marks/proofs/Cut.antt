@@ -9,7 +9,7 @@ use borrow.Author.Tests.{not-true, eqb-false}
 use Rattle.refusals.specs.Finding.{Finding, found}
 use Rattle.pieces.specs.Picture.{px}
 use Rattle.table.specs.declared.Table.{Table}
-use Rattle.regions.specs.Found.{Answer, unclaimed}
+use Rattle.regions.specs.Found.{Answer}
 use Rattle.regions.specs.Tests.{Lookable}
 use Rattle.regions.specs.Lookup.{Answered, Looks}
 use Rattle.scanner.specs.declared.LinePosition.{LinePosition}

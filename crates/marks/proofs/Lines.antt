@@ -4,7 +4,7 @@ use native.Mathlib.Numerals.{add-one}
 use native.Mathlib.Omega.{arith}
 use mathlib.Core.Path.{◌≡◌, refl, sym, ap, ◌∙◌}
 use mathlib.Core.Bool.{Bool, true, false, cond}
-use mathlib.Core.List.{List, [], ◌∷◌, ◌++◌}
+use mathlib.Core.List.{List, [], ◌++◌}
 use Rattle.scanner.specs.Cuts.{line_cuts}
 use Rattle.scanner.specs.Lines.{some, next_line}
 use Rattle.scanner.specs.Scan.{begun, OnLine, Comes, to_cut, to_end}
@@ -13,7 +13,7 @@ use Rattle.scanner.specs.declared.LinePosition.{LinePosition}
 use Rattle.scanner.specs.declared.LineScanner.{LineScanner}
 use Rattle.scanner.proofs.Ahead.{begins, begun_on}
 use Rattle.scanner.proofs.NextLine.{none_on}
-use Rattle.marks.specs.Cuts.{Place, places_on, cuts_from, cuts_after, Reaches, next_cut, no_cut}
+use Rattle.marks.specs.Cuts.{places_on, cuts_from, cuts_after, Reaches, next_cut, no_cut}
 use Rattle.marks.specs.declared.cuts.Cutting.TheVariants.{At, Done}
 
 -- a line, and those below it

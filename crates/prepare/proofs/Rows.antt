@@ -8,7 +8,7 @@ use native.Mathlib.Nat.{mul_comm, mul-le-mul_right, sub-zero}
 use lib.ListN.{length, take, drop, length-append, length-drop}
 use lib.Seq.{take_all, take_at, drop_at, length-take-le}
 use Rattle.refusals.specs.Limits.{longest_side}
-use Rattle.prepare.specs.Threshold.{after, along, shaded, rows}
+use Rattle.prepare.specs.Threshold.{after, shaded, rows}
 use Rattle.prepare.proofs.Bounds.{Low, low_take, low_drop, low_reverse, after_low}
 
 -- rows in black and white, with the average that runs from the left along the first of them, and the one that runs from the right

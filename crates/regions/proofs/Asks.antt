@@ -8,7 +8,6 @@ use lib.ListN.{length}
 use Rattle.picture.specs.Sides.{Seeded}
 use Rattle.pieces.specs.Picture.{px}
 use Rattle.pieces.specs.Piece.{Piece, Pixels}
-use Rattle.pieces.specs.Paint.{Paints}
 use Rattle.pieces.proofs.Chains.{last_of}
 use Rattle.pieces.proofs.Index.{in_picture}
 use Rattle.pieces.proofs.Paints.{pixels_few}

@@ -6,7 +6,6 @@ use mathlib.Core.List.{List}
 use lib.ListN.{length}
 use Rattle.refusals.specs.Finding.{Finding, found}
 use Rattle.refusals.proofs.Distinct.{refusal_only}
-use Rattle.pieces.specs.Picture.{px}
 use Rattle.pieces.proofs.Counting.{number_unique}
 use Rattle.pieces.proofs.Paints.{paints_unique}
 use Rattle.table.specs.Table.{entry_of, newest, added, replaced}
@@ -15,7 +14,7 @@ use Rattle.table.specs.declared.Entry.{Entry}
 use Rattle.table.specs.declared.Table.{Table}
 use Rattle.regions.specs.Found.{Answer, unclaimed, region, meaning}
 use Rattle.regions.specs.Tests.{Lookable}
-use Rattle.regions.specs.Lookup.{Claimed, Measures, Fresh, given_up, FilledBack, in_paint, out_of_paint, Again, Looks, at_claimed, at_known, at_fresh, at_again, LookPost, refuses, answers}
+use Rattle.regions.specs.Lookup.{Measures, Fresh, given_up, FilledBack, in_paint, out_of_paint, Again, Looks, at_claimed, at_known, at_fresh, at_again, LookPost, refuses, answers}
 use Rattle.regions.specs.declared.ColoredRegion.{ColoredRegion}
 use Rattle.regions.specs.declared.ColoredRegion.TheVariants as variant
 use Rattle.regions.proofs.Accepted.{lookable}

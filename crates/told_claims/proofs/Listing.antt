@@ -1,7 +1,7 @@
 -- A fill that lists the rows that it meets, one behind the other, in a lent slice. Assumes nothing.
-use Prim.Native.Nat.{ℕ, zero, suc, ◌+◌, ◌-◌, ◌*◌, ◌≤◌, ◌<◌}
+use Prim.Native.Nat.{ℕ, suc, ◌+◌, ◌-◌, ◌*◌, ◌≤◌, ◌<◌}
 use native.Mathlib.Omega.{arith}
-use mathlib.Core.Path.{◌≡◌, refl, sym, ap, ◌∙◌}
+use mathlib.Core.Path.{◌≡◌, refl, ap, ◌∙◌}
 use mathlib.Core.List.{List, [], ◌∷◌, ◌++◌}
 use lib.ListN.{length, drop, set, length-append, length-drop}
 use Rattle.pieces.specs.declared.Row.{Row}
@@ -9,7 +9,6 @@ use Rattle.pieces.specs.Picture.{px, pixel}
 use Rattle.fill.specs.Stack.{held}
 use Rattle.fill.specs.Fill.{Fillable, Steppable, Steps}
 use Rattle.fill.specs.Fold.{folded}
-use Rattle.fill.specs.Order.{rows_met}
 use Rattle.fill.specs.declared.step.Stepped.{Stepped}
 use Rattle.fill.specs.declared.step.Stepped.TheVariants.{Met, Passed}
 use Rattle.fill.proofs.Underway.{Task}

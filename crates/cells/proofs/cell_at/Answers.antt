@@ -1,7 +1,6 @@
 -- `cell_at` is dark where the picture is not white. Assumes nothing.
 use borrow.Author.Tests.{eq-eqb, ne_eqb}
 use Rattle.cells.specs.Cell.{cell_at}
-use borrow.Author.Rules.{rules}
 use Rattle.cells.proofs.cell_at.Goals as goal
 
 pub returns-then-get_pixel_at_point-eq0 : goal.returns-then-get_pixel_at_point-eq0

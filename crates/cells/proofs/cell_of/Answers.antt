@@ -1,6 +1,5 @@
 -- `cell_of` hands a placed middle on, and refuses an unplaced one. Assumes nothing.
 use Rattle.cells.specs.Cell.{shown}
-use borrow.Author.Rules.{rules}
 use Rattle.cells.proofs.cell_of.Goals as goal
 
 pub returns-in-Placed : goal.returns-in-Placed

@@ -13,7 +13,6 @@ use Rattle.picture.proofs.Judged.{refusal_stands, sound_clear}
 use Rattle.picture.proofs.Passed.{clear_sized}
 use Rattle.geometry.specs.Map.{mapped}
 use Rattle.cells.specs.Cell.{index_test, middle, shown, cell_of}
-use borrow.Author.Rules.{rules}
 use Rattle.cells.proofs.read_cell.Goals as goal
 
 pub returns-then-x-size : goal.returns-then-x-size

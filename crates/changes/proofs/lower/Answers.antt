@@ -1,6 +1,5 @@
 -- `lower` is `with` of one coefficient and one rounded step. Assumes nothing.
 use Rattle.changes.specs.Change.{lowered}
-use borrow.Author.Rules.{rules}
 use Rattle.changes.proofs.lower.Goals as goal
 
 pub returns : goal.returns

@@ -1,6 +1,5 @@
 -- `raise` is `with` of one coefficient and one rounded step. Assumes nothing.
 use Rattle.changes.specs.Change.{raised}
-use borrow.Author.Rules.{rules}
 use Rattle.changes.proofs.raise.Goals as goal
 
 pub returns : goal.returns

@@ -1,7 +1,6 @@
 -- `claim` refuses what `judge` refuses, with the picture as it was, and else leaves the fill's outcome. Assumes nothing.
 use mathlib.Core.Path.{◌≡◌, refl, sym, ap, ◌∙◌}
 use lib.ListN.{length}
-use borrow.Author.Rules.{rules}
 use Rattle.refusals.specs.First.{first, sound}
 use Rattle.picture.specs.Verdict.{judged}
 use Rattle.claim.specs.Tests.{claim_tests}

@@ -4,7 +4,6 @@ use native.Mathlib.Omega.{arith}
 use mathlib.Core.Path.{sym, ◌∙◌}
 use mathlib.Core.List.{List}
 use lib.ListN.{length}
-use borrow.Author.Rules.{rules}
 use Rattle.refusals.specs.First.{Test, sound}
 use Rattle.refusals.proofs.First.{Clear, first_after}
 use Rattle.picture.specs.Sides.{seed_tests}

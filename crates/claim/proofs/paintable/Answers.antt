@@ -1,8 +1,7 @@
 -- `paintable` answers the first of 8, 6 and 7 that applies. Assumes nothing.
 use mathlib.Core.Path.{◌≡◌, sym, ◌∙◌}
 use mathlib.Core.Bool.{true, false}
-use borrow.Author.Rules.{rules}
-use borrow.Author.Tests.{not-true, not-false, eq-eqb, ne_eqb}
+use borrow.Author.Tests.{eq-eqb, ne_eqb}
 use Rattle.claim.specs.Tests.{claimable}
 use Rattle.claim.proofs.paintable.Goals as goal
 

@@ -1,7 +1,6 @@
 -- `fitness_all` adds up the parts of a grid. Assumes nothing.
 use native.Mathlib.Omega.{arith}
 use Rattle.fitness.proofs.Shapes.{score_expected}
-use borrow.Author.Rules.{rules}
 use Rattle.fitness.proofs.fitness_all.Goals as goal
 
 pub returns : goal.returns

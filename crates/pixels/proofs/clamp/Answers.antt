@@ -6,7 +6,6 @@ use lib.IntN.{pos, nat_abs}
 use mir.Syntax.{w32}
 use mir.Val.{to_z, of_z}
 use mir.Facts.{to_z-of_z}
-use borrow.Author.Rules.{rules}
 use Rattle.sizes.proofs.Size.{from_zero, size_fits}
 use Rattle.pixels.specs.Nearest.{clamped}
 use Rattle.pixels.proofs.Clamped.{below, on_side, beyond}

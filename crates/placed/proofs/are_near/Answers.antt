@@ -1,8 +1,6 @@
 -- `are_near` tests one coefficient after the other. Assumes nothing.
 use mathlib.Core.Path.{sym, ◌∙◌}
 use lib.Ieee.{of_bits}
-use borrow.Author.Rules.{rules}
-use borrow.Author.Tests.{not-true, not-false}
 use Rattle.placed.specs.Tame.{near}
 use Rattle.placed.proofs.are_near.Goals as goal
 

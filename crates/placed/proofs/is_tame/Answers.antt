@@ -1,7 +1,5 @@
 -- `is_tame` tests the denominator's coefficients, then each numerator's. Assumes nothing.
 use mathlib.Core.Path.{sym, ◌∙◌}
-use borrow.Author.Rules.{rules}
-use borrow.Author.Tests.{not-true, not-false}
 use Rattle.placed.specs.Tame.{tame}
 use Rattle.placed.proofs.is_tame.Goals as goal
 

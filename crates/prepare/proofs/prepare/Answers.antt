@@ -1,5 +1,4 @@
 -- `prepare` goes on from `sides`: what that refuses stands and the picture with it, else the picture is shaded. Assumes nothing.
-use borrow.Author.Rules.{rules}
 use mathlib.Core.Path.{sym, ap, ◌∙◌}
 use lib.ListN.{length}
 use Rattle.picture.specs.Verdict.{judged}

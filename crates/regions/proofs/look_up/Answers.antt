@@ -1,7 +1,6 @@
 -- `look_up` refuses what its tests refuse, and else answers as `get_region` does. Assumes nothing.
 use mathlib.Core.Path.{◌≡◌, refl, sym, ap, ◌∙◌}
 use lib.ListN.{length}
-use borrow.Author.Rules.{rules}
 use Rattle.refusals.specs.First.{first, sound}
 use Rattle.picture.specs.Verdict.{judged}
 use Rattle.regions.specs.Tests.{look_tests}

@@ -1,6 +1,5 @@
 -- `is_ring_like` tests both ends of the ratio. Assumes nothing.
 use borrow.Author.Tests.{lt-ltb, le-ltb}
-use borrow.Author.Rules.{rules}
 use Rattle.rings.specs.Ratio.{ratio, ring_like}
 use Rattle.rings.proofs.is_ring_like.Goals as goal
 

@@ -1,10 +1,8 @@
 -- `blacken` takes the paint off byte by byte. Assumes nothing.
-use Prim.Native.Nat.{◌-◌, ◌≤◌}
-use mathlib.Core.Path.{◌≡◌, refl, sym, ◌∙◌}
+use mathlib.Core.Path.{refl, sym, ◌∙◌}
 use native.Mathlib.Omega.{arith}
-use borrow.Author.Rules.{rules}
-use lib.ListN.{length, length-set}
-use Rattle.rollback.proofs.Bytes.{passing, passing_starts, passing_goes_on, passing_ends}
+use lib.ListN.{length-set}
+use Rattle.rollback.proofs.Bytes.{passing_starts, passing_goes_on, passing_ends}
 use Rattle.rollback.proofs.blacken.Goals as goal
 
 pub loop-i-init : goal.loop-i-init

@@ -1,10 +1,8 @@
 -- `blacken` takes the paint off byte by byte. Assumes nothing.
 use Prim.Native.Nat.{◌-◌, ◌≤◌}
-use mathlib.Core.Path.{◌≡◌, refl, sym, ◌∙◌}
-use native.Mathlib.Omega.{arith}
-use borrow.Author.Rules.{rules}
-use lib.ListN.{length, length-set}
-use Rattle.rollback.proofs.Bytes.{passing, passing_starts, passing_goes_on, passing_ends}
+use mathlib.Core.Path.{◌≡◌}
+use lib.ListN.{length}
+use Rattle.rollback.proofs.Bytes.{passing}
 use Rattle.rollback.proofs.blacken.Given as goal
 
 abbrev pub invariant-loop-i : goal.invariant-loop-i

@@ -3,7 +3,6 @@ use mathlib.Core.Path.{refl}
 use native.Mathlib.Omega.{arith}
 use lib.Dec.{lit<}
 use Rattle.runs.specs.Mark.{average}
-use borrow.Author.Rules.{rules}
 use Rattle.runs.proofs.average_of.Goals as goal
 
 pub overflow_add-result : goal.overflow_add-result

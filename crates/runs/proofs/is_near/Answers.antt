@@ -1,6 +1,5 @@
 -- `is_near` tests both ends. Assumes nothing.
 use borrow.Author.Tests.{le-leb, lt-leb}
-use borrow.Author.Rules.{rules}
 use Rattle.runs.proofs.is_near.Goals as goal
 
 pub returns-then-run-should : goal.returns-then-run-should

@@ -1,10 +1,8 @@
 -- `dark_end` stops at the first pixel of the other shade, or at the end of the line. Assumes nothing.
 use Prim.Native.Nat.{◌-◌, ◌≤◌}
-use native.Mathlib.Omega.{arith}
-use mathlib.Core.Path.{◌≡◌, refl, sym, ◌∙◌}
+use mathlib.Core.Path.{◌≡◌}
 use mathlib.Core.Bool.{true}
 use Rattle.scanner.specs.Edges.{run_end}
-use Rattle.scanner.proofs.RunEnds.{is_light, is_dark, goes_on, ends_here, ends_last}
 use Rattle.scanner.proofs.dark_end.Given as goal
 
 abbrev pub invariant-loop-end : goal.invariant-loop-end

@@ -1,10 +1,8 @@
 -- `light_end` stops at the first pixel of the other shade, or at the end of the line. Assumes nothing.
 use Prim.Native.Nat.{◌-◌, ◌≤◌}
-use native.Mathlib.Omega.{arith}
-use mathlib.Core.Path.{◌≡◌, refl, sym, ◌∙◌}
+use mathlib.Core.Path.{◌≡◌}
 use mathlib.Core.Bool.{false}
 use Rattle.scanner.specs.Edges.{run_end}
-use Rattle.scanner.proofs.RunEnds.{is_light, is_dark, goes_on, ends_here, ends_last}
 use Rattle.scanner.proofs.light_end.Given as goal
 
 abbrev pub invariant-loop-end : goal.invariant-loop-end

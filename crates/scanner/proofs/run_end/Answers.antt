@@ -1,6 +1,5 @@
 -- `run_end` follows the run of the first pixel's shade. Assumes nothing.
 use Rattle.scanner.proofs.RunEnds.{is_light, is_dark}
-use borrow.Author.Rules.{rules}
 use Rattle.scanner.proofs.run_end.Goals as goal
 
 pub returns-then-pic-base-eq0 : goal.returns-then-pic-base-eq0

@@ -1,7 +1,5 @@
 -- `judge` refuses a point that is not near. Assumes nothing.
 use mathlib.Core.Path.{sym, ◌∙◌}
-use borrow.Author.Rules.{rules}
-use borrow.Author.Tests.{not-true, not-false}
 use Rattle.stated.specs.Stated.{judged}
 use Rattle.stated.proofs.judge.Goals as goal
 

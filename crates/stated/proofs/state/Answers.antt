@@ -1,6 +1,5 @@
 -- `state` maps the point, and judges the place. Assumes nothing.
 use mathlib.Core.Path.{sym, ap, ◌∙◌}
-use borrow.Author.Rules.{rules}
 use Rattle.geometry.specs.Map as map
 use Rattle.stated.specs.Stated.{stated}
 use Rattle.stated.proofs.state.Goals as goal

@@ -8,7 +8,6 @@ use Rattle.stated.specs.Stated.{meaning, stated_at}
 use Rattle.stated.proofs.Reach.{stated_near}
 use Rattle.cells.specs.Cell.{middle}
 use Rattle.timing.specs.Measure.{measured_between, measured_of}
-use borrow.Author.Rules.{rules}
 use Rattle.timing.proofs.measure_timing_pattern.Goals as goal
 
 pub size_between-requires : goal.size_between-requires

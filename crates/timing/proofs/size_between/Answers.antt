@@ -1,7 +1,6 @@
 -- `size_between` scans from end 1 to the others. Assumes nothing.
 use Rattle.timing.specs.Measure.{size_between}
 use Rattle.timing.proofs.Counting.{changes_few}
-use borrow.Author.Rules.{rules}
 use Rattle.timing.proofs.size_between.Goals as goal
 
 pub size_by-requires : goal.size_by-requires

@@ -1,7 +1,6 @@
 -- `size_by` goes by the larger count. Assumes nothing.
 use mathlib.Core.Path.{sym, ◌∙◌}
 use Rattle.timing.proofs.Measures.{none_told, larger_told}
-use borrow.Author.Rules.{rules}
 use Rattle.timing.proofs.size_by.Goals as goal
 
 pub returns-then-scan-eq0 : goal.returns-then-scan-eq0

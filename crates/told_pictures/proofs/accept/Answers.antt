@@ -1,5 +1,4 @@
 -- `accept` tells what accept answers. Assumes nothing.
-use borrow.Author.Rules.{rules}
 use Rattle.told_pictures.proofs.accept.Goals as goal
 
 pub returns : goal.returns

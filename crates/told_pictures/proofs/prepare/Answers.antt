@@ -1,5 +1,4 @@
 -- `prepare` tells what prepare answers, and leaves its picture. Assumes nothing.
-use borrow.Author.Rules.{rules}
 use Rattle.told_pictures.proofs.prepare.Goals as goal
 
 pub returns : goal.returns

@@ -1,6 +1,5 @@
 -- `verdict_number` is 0 or the refusal's number. Assumes nothing.
 use Rattle.told_pictures.specs.Pictures.{verdict_number}
-use borrow.Author.Rules.{rules}
 use Rattle.told_pictures.proofs.verdict_number.Goals as goal
 
 pub returns-in-Sound : goal.returns-in-Sound

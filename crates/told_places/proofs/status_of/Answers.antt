@@ -1,5 +1,4 @@
 -- `status_of` tells a verdict by its number. Assumes nothing.
-use borrow.Author.Rules.{rules}
 use Rattle.told_places.specs.Values.{status_of}
 use Rattle.told_places.proofs.status_of.Goals as goal
 

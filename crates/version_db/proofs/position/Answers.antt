@@ -1,7 +1,6 @@
 -- `position` reads the table that Annex E prints, and that is what the rule says. Assumes nothing.
 use Rattle.version_db.specs.AnnexE.{printed}
 use Rattle.version_db.proofs.Rule.{printed_right}
-use borrow.Author.Rules.{rules}
 use Rattle.version_db.proofs.position.Goals as goal
 
 pub returns : goal.returns

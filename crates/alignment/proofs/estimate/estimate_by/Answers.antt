@@ -1,5 +1,4 @@
 -- `estimate_by` refuses an area above 10,000. Assumes nothing.
-use borrow.Author.Rules.{rules}
 use borrow.Author.Tests.{lt-ltb, le-ltb}
 use Rattle.alignment.specs.Estimate.{estimate_by}
 use Rattle.alignment.proofs.estimate.estimate_by.Goals as goal

@@ -5,7 +5,6 @@ use Rattle.refusals.specs.Finding.{found}
 use Rattle.stated.specs.Stated.{meaning}
 use Rattle.stated.proofs.Reach.{stated_near}
 use Rattle.alignment.specs.Estimate.{estimate_between, corner_down, corner_right, estimate_of}
-use borrow.Author.Rules.{rules}
 use Rattle.alignment.proofs.estimate.size_estimate.Goals as goal
 
 pub estimate_by-requires : goal.estimate_by-requires

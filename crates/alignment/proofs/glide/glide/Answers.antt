@@ -1,9 +1,7 @@
 -- `glide` goes from pass to pass, until a glance does not settle one, or the leg is too long. Assumes nothing.
 use native.Mathlib.Nat.{mul-le-mul}
 use native.Mathlib.Omega.{arith}
-use borrow.Author.Rules.{rules}
-use Rattle.alignment.specs.Spiral.{passes_left}
-use Rattle.alignment.proofs.Gliding.{OnTheWay, way_begun, way_far, way_less, way_unsure, way_moves, way_stays}
+use Rattle.alignment.proofs.Gliding.{way_begun, way_far, way_less, way_unsure, way_moves, way_stays}
 use Rattle.alignment.proofs.glide.glide.Goals as goal
 
 pub loop-pass-init : goal.loop-pass-init

@@ -2,12 +2,11 @@
 use Prim.Native.Nat.{◌≤◌}
 use native.Mathlib.Nat.{mul-le-mul, lt_of_le_of_lt}
 use native.Mathlib.Omega.{arith}
-use mathlib.Core.Path.{◌≡◌, refl, sym, ◌∙◌}
-use lib.ListN.{length, length-map}
+use mathlib.Core.Path.{◌≡◌, refl}
+use lib.ListN.{length}
 use borrow.Author.Rules.{rules}
 use Rattle.points.specs.declared.Point.{Point}
 use Rattle.table.proofs.Exact.{sound_exact}
-use Rattle.alignment.specs.Spiral.{passes_left}
 use Rattle.alignment.specs.declared.spiral.Pass.{Pass}
 use Rattle.alignment.proofs.Visiting.{proper_test, visit_keeps}
 use Rattle.alignment.proofs.Spiralling.{Along, along_begun, along_far, along_less, along_here, along_stops, along_stays, along_moves, along_fewer, along_glides}

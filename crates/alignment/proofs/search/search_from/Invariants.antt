@@ -1,16 +1,8 @@
 -- `search_from` visits and glides, until a place is the answer, a visit is refused, or the leg is too long. Assumes nothing.
-use Prim.Native.Nat.{◌≤◌}
-use native.Mathlib.Nat.{mul-le-mul, lt_of_le_of_lt}
-use native.Mathlib.Omega.{arith}
-use mathlib.Core.Path.{◌≡◌, refl, sym, ◌∙◌}
-use lib.ListN.{length, length-map}
-use borrow.Author.Rules.{rules}
-use Rattle.points.specs.declared.Point.{Point}
-use Rattle.table.proofs.Exact.{sound_exact}
+use mathlib.Core.Path.{◌≡◌}
+use lib.ListN.{length}
 use Rattle.alignment.specs.Spiral.{passes_left}
-use Rattle.alignment.specs.declared.spiral.Pass.{Pass}
-use Rattle.alignment.proofs.Visiting.{proper_test, visit_keeps}
-use Rattle.alignment.proofs.Spiralling.{Along, along_begun, along_far, along_less, along_here, along_stops, along_stays, along_moves, along_fewer, along_glides}
+use Rattle.alignment.proofs.Spiralling.{Along}
 use Rattle.alignment.proofs.search.search_from.Given as goal
 
 abbrev pub invariant-loop-pass : goal.invariant-loop-pass

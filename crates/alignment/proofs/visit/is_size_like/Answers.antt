@@ -1,5 +1,4 @@
 -- `is_size_like` compares with half the estimate and with twice. Assumes nothing.
-use borrow.Author.Rules.{rules}
 use borrow.Author.Tests.{le-leb, lt-leb}
 use Rattle.alignment.specs.Visit.{size_like}
 use Rattle.alignment.proofs.visit.is_size_like.Goals as goal

@@ -1,6 +1,5 @@
 -- `visit_of` goes by the answer's case. Assumes nothing.
 use mathlib.Core.Path.{refl, sym, ap, ◌∙◌}
-use borrow.Author.Rules.{rules}
 use Rattle.regions.specs.Found.{meaning}
 use Rattle.alignment.specs.Visit.{visit_of}
 use Rattle.alignment.proofs.Coming.{comes, never_comes, of_size, of_another_size}

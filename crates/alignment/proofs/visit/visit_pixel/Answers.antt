@@ -3,7 +3,6 @@ use Prim.Native.Nat.{◌+◌, ◌*◌, ◌<◌}
 use native.Mathlib.Omega.{arith}
 use mathlib.Core.Path.{refl, sym, ◌∙◌}
 use lib.ListN.{length}
-use borrow.Author.Rules.{rules}
 use Rattle.pieces.proofs.Index.{in_picture}
 use Rattle.regions.proofs.Accepted.{below}
 use Rattle.alignment.specs.Visit.{white, not_listed, looked}

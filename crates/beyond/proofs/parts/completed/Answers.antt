@@ -1,6 +1,5 @@
 -- `completed` adds up the parts that are left. Assumes nothing.
 use Rattle.beyond.proofs.Grid.{all_seen}
-use borrow.Author.Rules.{rules}
 use Rattle.beyond.proofs.parts.completed.Goals as goal
 
 pub returns : goal.returns

@@ -1,6 +1,5 @@
 -- `minus` adds the opposite. Assumes nothing.
 use native.Mathlib.Omega.{arith}
-use borrow.Author.Rules.{rules}
 use Rattle.cell_fitness.proofs.Fitness.minus.Goals as goal
 
 pub returns : goal.returns

@@ -1,6 +1,5 @@
 -- `across` takes the steps of its definition. Assumes nothing.
 use Rattle.geometry.specs.Map.{map_x}
-use borrow.Author.Rules.{rules}
 use Rattle.cell_fitness.proofs.cell.across.Goals as goal
 
 pub returns : goal.returns

@@ -2,7 +2,6 @@
 use mathlib.Core.Path.{sym, ap, ◌∙◌}
 use Rattle.cell_fitness.specs.Along.{along}
 use Rattle.cell_fitness.proofs.Places.{place_before}
-use borrow.Author.Rules.{rules}
 use Rattle.cell_fitness.proofs.cell.behind.Goals as goal
 
 pub returns-in-At : goal.returns-in-At

@@ -8,7 +8,6 @@ use Rattle.pieces.proofs.Index.{in_picture}
 use Rattle.cell_fitness.specs.Score.{extent}
 use Rattle.cell_fitness.proofs.Dark.{dark_white, dark_coloured}
 use Rattle.cell_fitness.proofs.Shown.{seen_behind, seen_below, seen_inside}
-use borrow.Author.Rules.{rules}
 use Rattle.cell_fitness.proofs.cell.dark_at.Goals as goal
 
 pub returns-then-x-width : goal.returns-then-x-width

@@ -1,6 +1,5 @@
 -- `down` takes the steps of its definition. Assumes nothing.
 use Rattle.geometry.specs.Map.{map_y}
-use borrow.Author.Rules.{rules}
 use Rattle.cell_fitness.proofs.cell.down.Goals as goal
 
 pub returns : goal.returns

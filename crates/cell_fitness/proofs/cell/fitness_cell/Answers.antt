@@ -3,7 +3,6 @@ use Rattle.cell_fitness.specs.Seen.{cell_of}
 use Rattle.cell_fitness.proofs.Decimals.{three_tenths, five_tenths, seven_tenths}
 use Rattle.cell_fitness.proofs.Shown.{line_landed}
 use Rattle.cell_fitness.proofs.Sums.{scores_three}
-use borrow.Author.Rules.{rules}
 use Rattle.cell_fitness.proofs.cell.fitness_cell.Goals as goal
 
 pub returns : goal.returns

@@ -1,7 +1,6 @@
 -- `fitness_line` takes one point of a line after the other. Assumes nothing.
 use Rattle.cell_fitness.specs.Landed.{line_at}
 use Rattle.cell_fitness.proofs.Sums.{scores_three}
-use borrow.Author.Rules.{rules}
 use Rattle.cell_fitness.proofs.cell.fitness_line.Goals as goal
 
 pub returns : goal.returns

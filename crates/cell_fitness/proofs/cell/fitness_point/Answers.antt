@@ -1,6 +1,5 @@
 -- `fitness_point` looks at the two places that its point rounds to. Assumes nothing.
 use Rattle.cell_fitness.specs.Landed.{point_at}
-use borrow.Author.Rules.{rules}
 use Rattle.cell_fitness.proofs.cell.fitness_point.Goals as goal
 
 pub returns : goal.returns

@@ -1,6 +1,5 @@
 -- `land` takes both coordinates. Assumes nothing.
 use Rattle.cell_fitness.specs.Landed.{landed}
-use borrow.Author.Rules.{rules}
 use Rattle.cell_fitness.proofs.cell.land.Goals as goal
 
 pub returns : goal.returns

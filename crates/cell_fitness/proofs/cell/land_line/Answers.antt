@@ -1,7 +1,6 @@
 -- `land_line` takes three points, the decimals apart. Assumes nothing.
 use Rattle.cell_fitness.specs.Landed.{landed_line}
 use Rattle.cell_fitness.proofs.Decimals.{three_tenths, five_tenths, seven_tenths}
-use borrow.Author.Rules.{rules}
 use Rattle.cell_fitness.proofs.cell.land_line.Goals as goal
 
 pub returns : goal.returns

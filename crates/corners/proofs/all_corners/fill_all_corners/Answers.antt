@@ -1,14 +1,10 @@
 -- `fill_all_corners` paints its piece and shows the finder each row: each need is a law of Looking. Assumes nothing.
 use native.Mathlib.Omega.{arith}
 use borrow.Author.Rules.{rules}
-use lib.ListN.{length}
-use Rattle.fill.proofs.Filling.{task_of, room_some}
-use Rattle.fill.proofs.Measure.{to_do}
+use Rattle.fill.proofs.Filling.{room_some}
 use Rattle.corners.specs.Rows.{by_ends, Drawn}
-use Rattle.corners.specs.Scores.{Direction}
 use Rattle.corners.specs.Finders.{all_corners_see}
-use Rattle.corners.specs.declared.all_corners.AllCornerFinder.{AllCornerFinder}
-use Rattle.corners.proofs.Looking.{Looking, looking-begun, looking_asks, looking_row, looking_met, looking_met_less, looking_passed, looking_passed_less, looking_end}
+use Rattle.corners.proofs.Looking.{looking-begun, looking_asks, looking_row, looking_met, looking_met_less, looking_passed, looking_passed_less, looking_end}
 use Rattle.corners.proofs.all_corners.fill_all_corners.Goals as goal
 use Rattle.corners.proofs.all_corners.fill_all_corners.Invariants.{Ready}
 

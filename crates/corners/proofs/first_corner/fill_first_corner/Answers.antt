@@ -1,14 +1,10 @@
 -- `fill_first_corner` paints its piece and shows the finder each row: each need is a law of Looking. Assumes nothing.
 use native.Mathlib.Omega.{arith}
 use borrow.Author.Rules.{rules}
-use lib.ListN.{length}
-use Rattle.points.specs.Range.{Within}
-use Rattle.fill.proofs.Filling.{task_of, room_some}
-use Rattle.fill.proofs.Measure.{to_do}
+use Rattle.fill.proofs.Filling.{room_some}
 use Rattle.corners.specs.Rows.{by_ends, Drawn}
 use Rattle.corners.specs.Finders.{first_corner_sees}
-use Rattle.corners.specs.declared.first_corner.FirstCornerFinder.{FirstCornerFinder}
-use Rattle.corners.proofs.Looking.{Looking, looking-begun, looking_asks, looking_row, looking_met, looking_met_less, looking_passed, looking_passed_less, looking_end}
+use Rattle.corners.proofs.Looking.{looking-begun, looking_asks, looking_row, looking_met, looking_met_less, looking_passed, looking_passed_less, looking_end}
 use Rattle.corners.proofs.first_corner.fill_first_corner.Goals as goal
 use Rattle.corners.proofs.first_corner.fill_first_corner.Invariants.{Ready}
 

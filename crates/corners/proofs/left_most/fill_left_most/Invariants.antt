@@ -1,14 +1,12 @@
 -- `fill_left_most` paints its piece and shows the finder each row: each need is a law of Looking. Assumes nothing.
-use native.Mathlib.Omega.{arith}
-use borrow.Author.Rules.{rules}
 use lib.ListN.{length}
-use Rattle.fill.proofs.Filling.{task_of, room_some}
+use Rattle.fill.proofs.Filling.{task_of}
 use Rattle.fill.proofs.Measure.{to_do}
 use Rattle.corners.specs.Rows.{by_ends}
 use Rattle.corners.specs.Scores.{Direction}
 use Rattle.corners.specs.Finders.{left_most_sees}
 use Rattle.corners.specs.declared.left_most.LeftMostFinder.{LeftMostFinder}
-use Rattle.corners.proofs.Looking.{Looking, looking-begun, looking_asks, looking_row, looking_met, looking_met_less, looking_passed, looking_passed_less, looking_end}
+use Rattle.corners.proofs.Looking.{Looking}
 use Rattle.corners.proofs.left_most.fill_left_most.Given as goal
 
 abbrev pub Ready : LeftMostFinder → Type 0

@@ -1,5 +1,4 @@
 -- `point_at`: a column and a line of a picture fit an i32. Assumes nothing.
-use borrow.Author.Rules.{rules}
 use native.Mathlib.Omega.{arith}
 use Prim.Native.Nat.{◌<◌, ◌^◌}
 use mir.Syntax.{w32}

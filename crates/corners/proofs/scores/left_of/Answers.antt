@@ -1,5 +1,4 @@
 -- `left_of` computes the opposite of `across`, which is small enough. Assumes nothing.
-use borrow.Author.Rules.{rules}
 use Rattle.corners.specs.Scores.{across_of, left_of}
 use Rattle.corners.proofs.Signed.{Is, is_fits, is_back, is_opposite}
 use Rattle.corners.proofs.Small.{is_across}

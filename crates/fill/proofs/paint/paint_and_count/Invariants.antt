@@ -1,13 +1,8 @@
 -- `paint_and_count` paints its piece and counts as it goes: each need is a law of Counting. Assumes nothing.
-use Prim.Native.Nat.{◌<◌, ◌≤◌}
-use native.Mathlib.Omega.{arith}
-use mathlib.Core.Path.{refl}
-use borrow.Author.Rules.{rules}
 use lib.ListN.{length}
-use Rattle.fill.proofs.Filling.{task_of, room_some, filling_asks, filling_less, end_paints}
-use Rattle.fill.proofs.Folding.{steps_as}
+use Rattle.fill.proofs.Filling.{task_of}
 use Rattle.fill.proofs.Measure.{to_do}
-use Rattle.fill.proofs.Counting.{Counting, counting_begun, pushes_low, met_kept, met_in, counting_met, counting_passed, counting_end}
+use Rattle.fill.proofs.Counting.{Counting}
 use Rattle.fill.proofs.paint.paint_and_count.Given as goal
 
 abbrev pub invariant-loop-sp : goal.invariant-loop-sp

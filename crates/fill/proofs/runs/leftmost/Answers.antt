@@ -1,8 +1,7 @@
 -- `leftmost` answers the left end: at each turn the end from where it stands is the end from x. Assumes nothing.
-use Prim.Native.Nat.{◌≤◌, ◌-◌}
+use Prim.Native.Nat.{◌-◌}
 use native.Mathlib.Omega.{arith}
 use mathlib.Core.Path.{◌≡◌, refl, sym, ◌∙◌}
-use Rattle.fill.specs.Order.{left_end}
 use Rattle.fill.proofs.Ends.{left_in_at, left_out_at, left_zero}
 use Rattle.fill.proofs.runs.leftmost.Goals as goal
 

@@ -1,10 +1,9 @@
 -- `paint_run` paints n bytes: a single one at once, else the k first of them after k turns. Assumes nothing.
-use Prim.Native.Nat.{ℕ, ◌≤◌, ◌+◌, ◌-◌}
+use Prim.Native.Nat.{ℕ, ◌+◌}
 use native.Mathlib.Omega.{arith}
 use mathlib.Core.Path.{◌≡◌, refl, ap, ◌∙◌}
 use mathlib.Core.List.{List}
-use lib.ListN.{length, set, length-set}
-use Rattle.fill.specs.Order.{paint_run}
+use lib.ListN.{set, length-set}
 use Rattle.fill.proofs.Painted.{paint_none, paint_one, paint_more}
 use Rattle.fill.proofs.runs.paint_run.Goals as goal
 

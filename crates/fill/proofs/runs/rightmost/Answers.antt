@@ -1,8 +1,7 @@
 -- `rightmost` answers the right end: at each turn the end from where it stands is the end from x. Assumes nothing.
-use Prim.Native.Nat.{◌≤◌, ◌<◌, ◌+◌, ◌-◌}
+use Prim.Native.Nat.{◌+◌, ◌-◌}
 use native.Mathlib.Omega.{arith}
 use mathlib.Core.Path.{◌≡◌, refl, sym, ◌∙◌}
-use Rattle.fill.specs.Order.{right_end}
 use Rattle.fill.proofs.Ends.{right_in_at, right_out_at, right_zero}
 use Rattle.fill.proofs.runs.rightmost.Goals as goal
 

@@ -1,5 +1,4 @@
 -- `row_at` answers the row between the two ends. Assumes nothing.
-use borrow.Author.Rules.{rules}
 use Rattle.pieces.specs.Row.{row}
 use Rattle.fill.specs.Order.{row_at}
 use Rattle.fill.proofs.runs.row_at.Goals as goal

@@ -1,9 +1,7 @@
 -- `past_others` answers the first column that shows `from`: at each turn the one from where it stands is the one from x. Assumes nothing.
 use Prim.Native.Nat.{◌≤◌, ◌-◌}
-use native.Mathlib.Omega.{arith}
-use mathlib.Core.Path.{◌≡◌, refl, sym, ◌∙◌}
+use mathlib.Core.Path.{◌≡◌}
 use Rattle.fill.specs.Stretch.{past_others}
-use Rattle.fill.proofs.Stretches.{others_none, others_here, others_on}
 use Rattle.fill.proofs.seeds.past_others.Given as goal
 
 abbrev pub invariant-loop-k : goal.invariant-loop-k

@@ -1,8 +1,7 @@
 -- `past_run` answers the first column that shows another byte: at each turn the one from where it stands is the one from x. Assumes nothing.
-use Prim.Native.Nat.{◌≤◌, ◌-◌}
+use Prim.Native.Nat.{◌-◌}
 use native.Mathlib.Omega.{arith}
-use mathlib.Core.Path.{◌≡◌, refl, sym, ◌∙◌}
-use Rattle.fill.specs.Stretch.{past_run}
+use mathlib.Core.Path.{refl, sym, ◌∙◌}
 use Rattle.fill.proofs.Stretches.{run_none, run_here, run_on}
 use Rattle.fill.proofs.seeds.past_run.Goals as goal
 

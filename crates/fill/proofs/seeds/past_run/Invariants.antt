@@ -1,9 +1,7 @@
 -- `past_run` answers the first column that shows another byte: at each turn the one from where it stands is the one from x. Assumes nothing.
 use Prim.Native.Nat.{◌≤◌, ◌-◌}
-use native.Mathlib.Omega.{arith}
-use mathlib.Core.Path.{◌≡◌, refl, sym, ◌∙◌}
+use mathlib.Core.Path.{◌≡◌}
 use Rattle.fill.specs.Stretch.{past_run}
-use Rattle.fill.proofs.Stretches.{run_none, run_here, run_on}
 use Rattle.fill.proofs.seeds.past_run.Given as goal
 
 abbrev pub invariant-loop-k : goal.invariant-loop-k

@@ -3,7 +3,6 @@ use Prim.Native.Nat.{◌-◌}
 use native.Mathlib.Omega.{arith}
 use mathlib.Core.Path.{refl, sym, ap}
 use lib.ListN.{length}
-use borrow.Author.Rules.{rules}
 use Rattle.fill.specs.Stack.{held}
 use Rattle.fill.proofs.Inside.{line_inside}
 use Rattle.fill.proofs.Lines.{above_none, above_line}

@@ -4,7 +4,6 @@ use native.Mathlib.Omega.{arith}
 use mathlib.Core.Path.{◌≡◌, refl, ap, ◌∙◌, subst}
 use mathlib.Core.Bool.{false}
 use lib.ListN.{length, length-set}
-use borrow.Author.Rules.{rules}
 use Rattle.pieces.specs.Picture.{pixel}
 use Rattle.fill.specs.Order.{seeds}
 use Rattle.fill.specs.Stack.{held}

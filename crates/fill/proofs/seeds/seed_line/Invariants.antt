@@ -1,17 +1,12 @@
 -- `seed_line` scans a line as the rule does, a single column at once and any other by stretches: what is left of the scan, from where it stands, gives what the whole gives. Assumes nothing.
-use Prim.Native.Nat.{ℕ, ◌≤◌, ◌<◌, ◌+◌, ◌-◌}
-use native.Mathlib.Omega.{arith}
-use mathlib.Core.Path.{◌≡◌, refl, ap, ◌∙◌, subst}
+use Prim.Native.Nat.{◌-◌}
+use mathlib.Core.Path.{◌≡◌}
 use mathlib.Core.Bool.{false}
-use lib.ListN.{length, length-set}
-use borrow.Author.Rules.{rules}
+use lib.ListN.{length}
 use Rattle.pieces.specs.Picture.{pixel}
 use Rattle.fill.specs.Order.{seeds}
 use Rattle.fill.specs.Stack.{held}
-use Rattle.fill.specs.Stretch.{past_others}
-use Rattle.fill.proofs.Scan.{seeds_end}
-use Rattle.fill.proofs.Stretches.{Onset, onset, run_within, seeds_others, seeds_more, seeds_turn}
-use Rattle.fill.proofs.Entries.{held_length, held_push}
+use Rattle.fill.proofs.Stretches.{Onset}
 use Rattle.fill.proofs.seeds.seed_line.Given as goal
 
 abbrev pub invariant-loop-x : goal.invariant-loop-x

@@ -2,7 +2,6 @@
 use Prim.Native.Nat.{◌-◌}
 use native.Mathlib.Omega.{arith}
 use mathlib.Core.Path.{refl}
-use borrow.Author.Rules.{rules}
 use Rattle.fill.proofs.Stepping.{entry_in, entry_fits, entry_line, step_passed, found_meetable, step_met}
 use Rattle.fill.proofs.step.fill_step.Goals as goal
 

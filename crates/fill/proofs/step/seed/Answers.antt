@@ -2,7 +2,6 @@
 use native.Mathlib.Omega.{arith}
 use mathlib.Core.Path.{refl, ap, ◌∙◌}
 use mathlib.Core.List.{List, ◌∷◌}
-use borrow.Author.Rules.{rules}
 use Rattle.pieces.specs.Picture.{Pixel, pixel}
 use Rattle.fill.proofs.Inside.{pixel_inside}
 use Rattle.fill.proofs.Entries.{held_none, held_push}

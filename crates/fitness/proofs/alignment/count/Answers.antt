@@ -1,6 +1,5 @@
 -- `count` is Annex E's number of positions. Assumes nothing.
 use native.Mathlib.Omega.{arith}
-use borrow.Author.Rules.{rules}
 use borrow.Author.Tests.{lt-ltb, le-ltb}
 use Rattle.fitness.proofs.alignment.count.Goals as goal
 

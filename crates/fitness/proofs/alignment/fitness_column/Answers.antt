@@ -1,13 +1,10 @@
 -- `fitness_column` takes one position after the other. Assumes nothing.
-use Prim.Native.Nat.{◌+◌, ◌-◌, ◌*◌, ◌≤◌}
+use Prim.Native.Nat.{◌+◌, ◌-◌}
 use native.Mathlib.Omega.{arith}
 use mathlib.Core.Path.{◌≡◌}
 use Rattle.version_db.specs.AnnexE.{count_of, position_of}
-use Rattle.fitness.specs.Expected.{each, pattern, column}
-use Rattle.cell_fitness.specs.Scores.{Scores}
-use Rattle.fitness.specs.Fitness.{score_of}
+use Rattle.fitness.specs.Expected.{pattern, column}
 use Rattle.fitness.proofs.Totals.{no_turns, one_more}
-use borrow.Author.Rules.{rules}
 use Rattle.fitness.proofs.alignment.fitness_column.Goals as goal
 
 pub loop-j-init : goal.loop-j-init

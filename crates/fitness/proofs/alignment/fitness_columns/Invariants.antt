@@ -1,13 +1,9 @@
 -- `fitness_columns` takes one column after the other. Assumes nothing.
 use Prim.Native.Nat.{◌+◌, ◌-◌, ◌*◌, ◌≤◌}
-use native.Mathlib.Omega.{arith}
-use mathlib.Core.Path.{◌≡◌}
-use Rattle.version_db.specs.AnnexE.{count_of, position_of}
-use Rattle.fitness.specs.Expected.{each, column, columns}
+use Rattle.version_db.specs.AnnexE.{position_of}
+use Rattle.fitness.specs.Expected.{each, column}
 use Rattle.cell_fitness.specs.Scores.{Scores}
 use Rattle.fitness.specs.Fitness.{score_of}
-use Rattle.fitness.proofs.Totals.{no_turns, one_more}
-use borrow.Author.Rules.{rules}
 use Rattle.fitness.proofs.alignment.fitness_columns.Given as goal
 
 abbrev pub invariant-loop-i : goal.invariant-loop-i

@@ -1,7 +1,6 @@
 -- `fitness_edge` adds up two patterns. Assumes nothing.
 use native.Mathlib.Omega.{arith}
 use Rattle.fitness.proofs.Totals.{scores_append}
-use borrow.Author.Rules.{rules}
 use Rattle.fitness.proofs.alignment.fitness_edge.Goals as goal
 
 pub returns : goal.returns

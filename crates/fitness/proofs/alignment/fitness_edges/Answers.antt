@@ -1,13 +1,10 @@
 -- `fitness_edges` takes one position after the other. Assumes nothing.
-use Prim.Native.Nat.{◌+◌, ◌-◌, ◌*◌, ◌≤◌}
+use Prim.Native.Nat.{◌+◌, ◌-◌}
 use native.Mathlib.Omega.{arith}
 use mathlib.Core.Path.{◌≡◌}
 use Rattle.version_db.specs.AnnexE.{count_of, position_of}
-use Rattle.fitness.specs.Expected.{each, edge, edges}
-use Rattle.cell_fitness.specs.Scores.{Scores}
-use Rattle.fitness.specs.Fitness.{score_of}
+use Rattle.fitness.specs.Expected.{edge, edges}
 use Rattle.fitness.proofs.Totals.{no_turns, one_more}
-use borrow.Author.Rules.{rules}
 use Rattle.fitness.proofs.alignment.fitness_edges.Goals as goal
 
 pub loop-i-init : goal.loop-i-init

@@ -1,7 +1,6 @@
 -- `place` reads a position, which has room for a pattern on either hand. Assumes nothing.
 use native.Mathlib.Omega.{arith}
 use Rattle.version_db.proofs.Inside.{inside, few_positions, from_six}
-use borrow.Author.Rules.{rules}
 use Rattle.fitness.proofs.alignment.place.Goals as goal
 
 pub position-requires : goal.position-requires

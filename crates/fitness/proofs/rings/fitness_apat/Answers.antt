@@ -1,7 +1,6 @@
 -- `fitness_apat` adds up a middle and two rings, the inner one against. Assumes nothing.
 use native.Mathlib.Omega.{arith}
 use Rattle.fitness.proofs.Shapes.{score_pattern}
-use borrow.Author.Rules.{rules}
 use Rattle.fitness.proofs.rings.fitness_apat.Goals as goal
 
 pub returns : goal.returns

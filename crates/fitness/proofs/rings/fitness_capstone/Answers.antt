@@ -1,7 +1,6 @@
 -- `fitness_capstone` adds up a middle and three rings, the second against. Assumes nothing.
 use native.Mathlib.Omega.{arith}
 use Rattle.fitness.proofs.Shapes.{score_mark}
-use borrow.Author.Rules.{rules}
 use Rattle.fitness.proofs.rings.fitness_capstone.Goals as goal
 
 pub returns : goal.returns

@@ -1,12 +1,9 @@
 -- `fitness_ring` goes once round: a turn of the loop adds one cell on each side. Assumes nothing.
-use Prim.Native.Nat.{◌-◌, ◌*◌, ◌≤◌}
+use Prim.Native.Nat.{◌*◌}
 use native.Mathlib.Omega.{arith}
 use mathlib.Core.Path.{◌≡◌}
-use Rattle.fitness.specs.Expected.{dark, each, sides, ring}
-use Rattle.cell_fitness.specs.Scores.{Scores}
-use Rattle.fitness.specs.Fitness.{score_of}
+use Rattle.fitness.specs.Expected.{dark, sides, ring}
 use Rattle.fitness.proofs.Totals.{no_turns, one_more}
-use borrow.Author.Rules.{rules}
 use Rattle.fitness.proofs.rings.fitness_ring.Goals as goal
 
 pub loop-i-init : goal.loop-i-init

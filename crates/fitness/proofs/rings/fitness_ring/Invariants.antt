@@ -1,12 +1,8 @@
 -- `fitness_ring` goes once round: a turn of the loop adds one cell on each side. Assumes nothing.
 use Prim.Native.Nat.{◌-◌, ◌*◌, ◌≤◌}
-use native.Mathlib.Omega.{arith}
-use mathlib.Core.Path.{◌≡◌}
-use Rattle.fitness.specs.Expected.{dark, each, sides, ring}
+use Rattle.fitness.specs.Expected.{dark, each, sides}
 use Rattle.cell_fitness.specs.Scores.{Scores}
 use Rattle.fitness.specs.Fitness.{score_of}
-use Rattle.fitness.proofs.Totals.{no_turns, one_more}
-use borrow.Author.Rules.{rules}
 use Rattle.fitness.proofs.rings.fitness_ring.Given as goal
 
 abbrev pub invariant-loop-i : goal.invariant-loop-i

@@ -1,7 +1,6 @@
 -- `fitness_sides` adds up four cells, one on each side. Assumes nothing.
 use native.Mathlib.Omega.{arith}
 use Rattle.fitness.proofs.Totals.{score_four}
-use borrow.Author.Rules.{rules}
 use Rattle.fitness.proofs.rings.fitness_sides.Goals as goal
 
 pub returns : goal.returns

@@ -1,6 +1,5 @@
 -- `fitness_crossing` adds up two cells, for where they are expected dark and against where they are expected light. Assumes nothing.
 use native.Mathlib.Omega.{arith}
-use borrow.Author.Rules.{rules}
 use borrow.Author.Tests.{eq-eqb, ne_eqb}
 use Rattle.cell_fitness.proofs.Sums.{opposite_plus}
 use Rattle.fitness.proofs.Totals.{score_two}

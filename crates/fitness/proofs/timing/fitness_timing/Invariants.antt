@@ -1,12 +1,8 @@
 -- `fitness_timing` takes one place after the other. Assumes nothing.
 use Prim.Native.Nat.{◌+◌, ◌-◌, ◌*◌, ◌≤◌}
-use native.Mathlib.Omega.{arith}
-use mathlib.Core.Path.{◌≡◌}
-use Rattle.fitness.specs.Expected.{each, crossing, timing}
+use Rattle.fitness.specs.Expected.{each, crossing}
 use Rattle.cell_fitness.specs.Scores.{Scores}
 use Rattle.fitness.specs.Fitness.{score_of}
-use Rattle.fitness.proofs.Totals.{no_turns, one_more}
-use borrow.Author.Rules.{rules}
 use Rattle.fitness.proofs.timing.fitness_timing.Given as goal
 
 abbrev pub invariant-loop-i : goal.invariant-loop-i

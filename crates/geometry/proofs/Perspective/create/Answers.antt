@@ -1,6 +1,5 @@
 -- `create` judges the corners as floats. Assumes nothing.
 use Rattle.geometry.specs.Create.{sight_of}
-use borrow.Author.Rules.{rules}
 use Rattle.geometry.proofs.Perspective.create.Goals as goal
 
 pub returns : goal.returns

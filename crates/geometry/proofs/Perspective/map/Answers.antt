@@ -1,6 +1,5 @@
 -- `map` places both quotients, rounded. Assumes nothing.
 use Rattle.geometry.specs.Map.{mapped, map_x, map_y}
-use borrow.Author.Rules.{rules}
 use Rattle.geometry.proofs.Perspective.map.Goals as goal
 
 pub returns : goal.returns

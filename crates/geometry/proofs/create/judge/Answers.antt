@@ -4,7 +4,6 @@ use mathlib.Core.Bool.{true, false}
 use lib.Ieee.{lt, of_bits}
 use Rattle.floats.specs.Float64.{epsilon}
 use Rattle.geometry.specs.Create.{judged, width_den, height_den}
-use borrow.Author.Rules.{rules}
 use Rattle.geometry.proofs.create.judge.Goals as goal
 
 pub returns-then-wden : goal.returns-then-wden

@@ -1,6 +1,5 @@
 -- `unmap_at` is both coordinates over one denominator. Assumes nothing.
 use Rattle.geometry.specs.Unmap.{unmapped_at}
-use borrow.Author.Rules.{rules}
 use Rattle.geometry.proofs.unmap.unmap_at.Goals as goal
 
 pub returns : goal.returns

@@ -1,5 +1,4 @@
 -- `orient` tests the side of the second centre, and swaps where it lies to the right. Assumes nothing.
-use borrow.Author.Rules.{rules}
 use mathlib.Core.Path.{sym, subst}
 use Rattle.sizes.proofs.Size.{read_back}
 use Rattle.corners.specs.Scores.{Direction}

@@ -1,7 +1,6 @@
 -- `rotate_capstone` makes the perspective of the turned corners, and refuses where it is flat. Assumes nothing.
 use mathlib.Core.Path.{sym}
 use lib.Ieee.{of_bits}
-use borrow.Author.Rules.{rules}
 use Rattle.groups.specs.Turn.{seen, sighted, rotated_of}
 use Rattle.groups.proofs.turning.rotate_capstone.Goals as goal
 

@@ -1,5 +1,4 @@
 -- `turned_by` compares the stone with its three turns, one after the other. Assumes nothing.
-use borrow.Author.Rules.{rules}
 use mathlib.Core.Path.{sym, subst}
 use Rattle.groups.specs.Side.{side_of}
 use Rattle.groups.specs.Group.{Framed}

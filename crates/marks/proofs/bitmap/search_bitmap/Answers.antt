@@ -1,7 +1,6 @@
 -- `search_bitmap` refuses what `judge` refuses, and else searches from an empty table. Assumes nothing.
 use mathlib.Core.Path.{◌≡◌, refl, sym, ap, ◌∙◌}
 use lib.ListN.{length}
-use borrow.Author.Rules.{rules}
 use Rattle.refusals.specs.First.{first, sound}
 use Rattle.picture.specs.Verdict.{judged}
 use Rattle.marks.specs.OfBitmap.{bitmap_tests, refuses, searches}

@@ -1,12 +1,9 @@
 -- `next_cut` goes on along a line, and down to the next that has a cut. Assumes nothing.
 use native.Mathlib.Omega.{arith}
-use Prim.Native.Nat.{◌-◌}
-use mathlib.Core.Path.{◌≡◌, subst}
-use borrow.Author.Rules.{rules}
+use mathlib.Core.Path.{subst}
 use Rattle.pieces.proofs.Index.{line_fits}
 use Rattle.scanner.specs.Scan.{Comes}
-use Rattle.scanner.specs.declared.Advanced.{Advanced}
-use Rattle.marks.proofs.Lines.{Pending, next_from, pending_begun, pending_cut, pending_down, pending_ends}
+use Rattle.marks.proofs.Lines.{next_from, pending_begun, pending_cut, pending_down, pending_ends}
 use Rattle.marks.proofs.cuts.next_cut.Goals as goal
 
 pub loop-y-init : goal.loop-y-init

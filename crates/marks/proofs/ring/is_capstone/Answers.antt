@@ -1,7 +1,5 @@
 -- `is_capstone` compares the two bytes, then the two regions. Assumes nothing.
 use mathlib.Core.Path.{sym, ◌∙◌}
-use borrow.Author.Tests.{not-true, not-false}
-use borrow.Author.Rules.{rules}
 use Rattle.marks.proofs.ring.is_capstone.Goals as goal
 
 pub is_same-requires : goal.is_same-requires

@@ -2,7 +2,6 @@
 use mathlib.Core.Path.{ap}
 use Rattle.regions.specs.Found.{meaning}
 use Rattle.marks.specs.Ring.{paired}
-use borrow.Author.Rules.{rules}
 use Rattle.marks.proofs.ring.is_pair.Goals as goal
 
 pub is_suited-requires : goal.is_suited-requires

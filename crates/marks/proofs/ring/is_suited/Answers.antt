@@ -1,6 +1,5 @@
 -- `is_suited` compares the numbers, then the sizes. Assumes nothing.
 use borrow.Author.Tests.{eq-eqb, ne_eqb}
-use borrow.Author.Rules.{rules}
 use Rattle.marks.specs.Ring.{suits}
 use Rattle.marks.proofs.ring.is_suited.Goals as goal
 

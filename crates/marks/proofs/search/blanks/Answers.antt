@@ -1,5 +1,4 @@
 -- `blanks` is an array of blank stones. Assumes nothing.
-use borrow.Author.Rules.{rules}
 use Rattle.marks.proofs.search.blanks.Goals as goal
 
 pub returns : goal.returns

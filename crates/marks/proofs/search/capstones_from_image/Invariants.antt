@@ -1,14 +1,8 @@
 -- `capstones_from_image` goes from cut to cut, until the picture ends or a cut is refused. Assumes nothing.
-use native.Mathlib.Omega.{arith}
-use Prim.Native.Nat.{◌≤◌}
-use mathlib.Core.Path.{◌≡◌, refl, ap}
+use mathlib.Core.Path.{◌≡◌}
 use lib.ListN.{length}
-use borrow.Author.Rules.{rules}
 use Rattle.marks.specs.Cuts.{cuts_after}
-use Rattle.marks.specs.Stone.{meaning}
-use Rattle.marks.proofs.Cut.{ring_lookable, stone_lookable, markable, tries_of}
-use Rattle.marks.proofs.Searching.{Over, reached, found_stones, tries_fit, takes_stone, takes_nothing, takes_refusal, over_begun, over_ends, over_less, over_asks, over_stops, over_next}
-use Rattle.marks.proofs.Whole.{all_stand}
+use Rattle.marks.proofs.Searching.{Over}
 use Rattle.marks.proofs.search.capstones_from_image.Given as goal
 
 abbrev pub invariant-loop-line : goal.invariant-loop-line

@@ -1,7 +1,5 @@
 -- `mark_at` makes the stone of a ring that passes the test. Assumes nothing.
 use mathlib.Core.Path.{refl, sym, ◌∙◌}
-use borrow.Author.Tests.{not-true, not-false}
-use borrow.Author.Rules.{rules}
 use Rattle.marks.specs.Search.{no_mark, a_mark}
 use Rattle.marks.proofs.search.mark_at.Goals as goal
 

@@ -1,6 +1,5 @@
 -- `refused` holds a refusal, and blank stones. Assumes nothing.
 use mathlib.Core.Path.{refl}
-use borrow.Author.Rules.{rules}
 use Rattle.refusals.specs.Limits.{most_stones}
 use Rattle.laid.proofs.Standing.{laid_refused}
 use Rattle.capstones.specs.Blank.{no_stone}

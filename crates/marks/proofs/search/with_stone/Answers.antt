@@ -1,6 +1,5 @@
 -- `with_stone` puts a stone behind the others. Assumes nothing.
 use mathlib.Core.Path.{refl}
-use borrow.Author.Rules.{rules}
 use Rattle.refusals.specs.Limits.{most_stones}
 use Rattle.laid.proofs.Standing.{with_one}
 use Rattle.capstones.specs.Blank.{no_stone}

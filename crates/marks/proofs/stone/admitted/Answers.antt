@@ -1,7 +1,6 @@
 -- `admitted` tests the centre, then the count. Assumes nothing.
 use mathlib.Core.Path.{sym, ◌∙◌}
-use borrow.Author.Tests.{le-leb, lt-leb, not-true, not-false}
-use borrow.Author.Rules.{rules}
+use borrow.Author.Tests.{le-leb, lt-leb}
 use Rattle.marks.proofs.stone.admitted.Goals as goal
 
 pub returns-then-not-is_near : goal.returns-then-not-is_near

@@ -1,7 +1,6 @@
 -- `centred` maps the middle, and hands its place on. Assumes nothing.
 use mathlib.Core.Path.{sym, ap, ◌∙◌}
 use lib.Ieee.{of_bits}
-use borrow.Author.Rules.{rules}
 use Rattle.geometry.specs.Map as map
 use Rattle.marks.specs.Stone.{placed_stone, centred_stone}
 use Rattle.marks.proofs.stone.centred.Goals as goal

@@ -2,7 +2,6 @@
 use native.Mathlib.Omega.{arith}
 use Prim.Native.Nat.{◌≤◌}
 use lib.ListN.{length}
-use borrow.Author.Rules.{rules}
 use Rattle.corners.proofs.Small.{first_corner_ready, all_corners_ready}
 use Rattle.marks.specs.Stone.{first_corner}
 use Rattle.marks.proofs.Fills.{ring_sides, fill_four, seed_low, seed_within, corner_within, fill_two}

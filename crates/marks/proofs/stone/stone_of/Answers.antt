@@ -1,7 +1,6 @@
 -- `stone_of` makes the perspective of the corners, and goes on unless it is flat. Assumes nothing.
 use mathlib.Core.Path.{sym, ◌∙◌}
 use lib.Ieee.{of_bits}
-use borrow.Author.Rules.{rules}
 use Rattle.marks.specs.Stone.{seen_stone, stone_of}
 use Rattle.marks.proofs.stone.stone_of.Goals as goal
 

@@ -1,7 +1,6 @@
 -- `accept` goes on from `sides`: what that refuses stands, else 4 is tested. Assumes nothing.
 use mathlib.Core.Path.{◌≡◌, sym, ◌∙◌}
 use mathlib.Core.List.{List, [], ◌∷◌, ◌++◌}
-use borrow.Author.Rules.{rules}
 use lib.ListN.{length}
 use Rattle.refusals.specs.First.{Test, first, sound}
 use Rattle.refusals.proofs.First.{first_after}

@@ -1,12 +1,10 @@
 -- `is_bitmap` answers whether no byte is above 1: the bytes passed are judged by the largest of them. Assumes nothing.
-use Prim.Native.Nat.{◌≤◌, ◌-◌}
 use mathlib.Core.Path.{◌≡◌, refl, sym, ◌∙◌}
-use mathlib.Core.Bool.{◌&&◌, and-true}
+use mathlib.Core.Bool.{and-true}
 use mathlib.Core.List.{[]}
 use native.Mathlib.Omega.{arith}
 use borrow.Author.Rules.{rules}
-use lib.Dec.{leb}
-use lib.ListN.{length, drop, drop_of_length-le}
+use lib.ListN.{drop, drop_of_length-le}
 use Rattle.picture.specs.Bitmap.{bitmap}
 use Rattle.picture.proofs.Bitmaps.{bitmap_step}
 use Rattle.picture.proofs.bitmap.is_bitmap.Goals as goal

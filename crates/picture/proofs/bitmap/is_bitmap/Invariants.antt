@@ -1,14 +1,10 @@
 -- `is_bitmap` answers whether no byte is above 1: the bytes passed are judged by the largest of them. Assumes nothing.
 use Prim.Native.Nat.{◌≤◌, ◌-◌}
-use mathlib.Core.Path.{◌≡◌, refl, sym, ◌∙◌}
-use mathlib.Core.Bool.{◌&&◌, and-true}
-use mathlib.Core.List.{[]}
-use native.Mathlib.Omega.{arith}
-use borrow.Author.Rules.{rules}
+use mathlib.Core.Path.{◌≡◌}
+use mathlib.Core.Bool.{◌&&◌}
 use lib.Dec.{leb}
-use lib.ListN.{length, drop, drop_of_length-le}
+use lib.ListN.{length, drop}
 use Rattle.picture.specs.Bitmap.{bitmap}
-use Rattle.picture.proofs.Bitmaps.{bitmap_step}
 use Rattle.picture.proofs.bitmap.is_bitmap.Given as goal
 
 abbrev pub invariant-loop-i : goal.invariant-loop-i

@@ -1,7 +1,6 @@
 -- `color_of` answers the colour of a byte. Assumes nothing.
 use mathlib.Core.Path.{sym}
 use native.Mathlib.Omega.{arith}
-use borrow.Author.Rules.{rules}
 use Rattle.picture.proofs.Colours.{discarded}
 use Rattle.picture.proofs.color.color_of.Goals as goal
 

@@ -1,7 +1,6 @@
 -- `seeded` goes on from `room`: what that refuses stands, else 5 is tested. Assumes nothing.
 use mathlib.Core.Path.{◌≡◌, sym, ◌∙◌}
 use mathlib.Core.List.{List, [], ◌∷◌, ◌++◌}
-use borrow.Author.Rules.{rules}
 use borrow.Author.Tests.{lt-ltb, le-ltb}
 use Rattle.refusals.specs.First.{Test, first, sound}
 use Rattle.refusals.proofs.First.{first_after}

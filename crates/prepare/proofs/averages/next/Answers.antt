@@ -2,7 +2,6 @@
 use Prim.Native.Nat.{◌*◌, ◌≤◌}
 use native.Mathlib.Omega.{arith}
 use native.Mathlib.Nat.{mul-le-mul}
-use borrow.Author.Rules.{rules}
 use Rattle.prepare.proofs.averages.next.Goals as goal
 
 pub overflow_mul-result : goal.overflow_mul-result

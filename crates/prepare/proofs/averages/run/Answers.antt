@@ -3,10 +3,10 @@ use Prim.Native.Nat.{ℕ, ◌-◌, ◌*◌, ◌^◌, ◌≤◌, ◌<◌}
 use mathlib.Core.Path.{◌≡◌, refl}
 use native.Mathlib.Omega.{arith}
 use borrow.Author.Rules.{rules}
-use lib.ListN.{length, get_or, length-set}
+use lib.ListN.{get_or, length-set}
 use Rattle.prepare.specs.Threshold.{step}
 use Rattle.prepare.proofs.Reciprocal.{step_by_reciprocal, reciprocal_low}
-use Rattle.prepare.proofs.Runs.{Midway, midway_starts, midway_goes_on, midway_ends}
+use Rattle.prepare.proofs.Runs.{midway_starts, midway_goes_on, midway_ends}
 use Rattle.prepare.proofs.averages.run.Goals as goal
 
 pub loop-x-init : goal.loop-x-init

@@ -1,12 +1,7 @@
 -- `run` carries both averages along a row by the reciprocal of s, and keeps them column by column. Assumes nothing.
-use Prim.Native.Nat.{ℕ, ◌-◌, ◌*◌, ◌^◌, ◌≤◌, ◌<◌}
-use mathlib.Core.Path.{◌≡◌, refl}
-use native.Mathlib.Omega.{arith}
-use borrow.Author.Rules.{rules}
-use lib.ListN.{length, get_or, length-set}
-use Rattle.prepare.specs.Threshold.{step}
-use Rattle.prepare.proofs.Reciprocal.{step_by_reciprocal, reciprocal_low}
-use Rattle.prepare.proofs.Runs.{Midway, midway_starts, midway_goes_on, midway_ends}
+use mathlib.Core.Path.{◌≡◌}
+use lib.ListN.{length}
+use Rattle.prepare.proofs.Runs.{Midway}
 use Rattle.prepare.proofs.averages.run.Given as goal
 
 abbrev pub invariant-loop-x : goal.invariant-loop-x

@@ -1,10 +1,8 @@
 -- `shade_row` shades a row column by column. Assumes nothing.
 use Prim.Native.Nat.{◌-◌, ◌≤◌}
-use mathlib.Core.Path.{◌≡◌, refl, sym, ◌∙◌}
-use native.Mathlib.Omega.{arith}
-use borrow.Author.Rules.{rules}
-use lib.ListN.{length, take, length-set}
-use Rattle.prepare.proofs.Shades.{shading, shading_starts, shading_goes_on, shading_ends}
+use mathlib.Core.Path.{◌≡◌}
+use lib.ListN.{length, take}
+use Rattle.prepare.proofs.Shades.{shading}
 use Rattle.prepare.proofs.threshold.shade_row.Given as goal
 
 abbrev pub invariant-loop-x : goal.invariant-loop-x

@@ -6,7 +6,7 @@ use native.Mathlib.Omega.{arith}
 use lib.ListN.{length, drop, length-take}
 use Rattle.prepare.specs.Threshold.{span, thresholded}
 use Rattle.prepare.specs.declared.averages.Ends.{Ends}
-use Rattle.prepare.proofs.Rows.{Onward, onward_starts, onward_goes_on, onward_ends, row_within, turned, rows_turned}
+use Rattle.prepare.proofs.Rows.{onward_starts, onward_goes_on, onward_ends, row_within, turned, rows_turned}
 use Rattle.prepare.proofs.threshold.threshold.Goals as goal
 
 pub span-s-requires : goal.span-s-requires

@@ -1,12 +1,6 @@
 -- `threshold` shades a picture row by row; the averages change sides after each. Assumes nothing.
-use Prim.Native.Nat.{ℕ, ◌+◌, ◌-◌, ◌≤◌}
-use mathlib.Core.Path.{sym, ap, ◌∙◌}
-use mathlib.Core.Bool.{true}
-use native.Mathlib.Omega.{arith}
-use lib.ListN.{length, drop, length-take}
-use Rattle.prepare.specs.Threshold.{span, thresholded}
-use Rattle.prepare.specs.declared.averages.Ends.{Ends}
-use Rattle.prepare.proofs.Rows.{Onward, onward_starts, onward_goes_on, onward_ends, row_within, turned, rows_turned}
+use Prim.Native.Nat.{◌-◌}
+use Rattle.prepare.proofs.Rows.{Onward}
 use Rattle.prepare.proofs.threshold.threshold.Given as goal
 
 abbrev pub invariant-loop-y : goal.invariant-loop-y

@@ -1,7 +1,6 @@
 -- `threshold_row` runs both averages along a row and shades it by what is kept. Assumes nothing.
 use mathlib.Core.Path.{◌∙◌}
 use native.Mathlib.Omega.{arith}
-use borrow.Author.Rules.{rules}
 use Rattle.prepare.specs.Run.{Columns}
 use Rattle.prepare.proofs.Bounds.{Low, kept_columns, kept_shades}
 use Rattle.prepare.proofs.threshold.threshold_row.Goals as goal

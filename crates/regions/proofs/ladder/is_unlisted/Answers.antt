@@ -1,5 +1,4 @@
 -- `is_unlisted` is the test of refusal 10. Assumes nothing.
-use borrow.Author.Rules.{rules}
 use borrow.Author.Tests.{le-leb, lt-leb}
 use Rattle.regions.specs.Tests.{unlisted}
 use Rattle.regions.proofs.ladder.is_unlisted.Goals as goal

@@ -2,7 +2,6 @@
 use mathlib.Core.Path.{sym, ◌∙◌}
 use mathlib.Core.List.{List}
 use lib.ListN.{length}
-use borrow.Author.Rules.{rules}
 use Rattle.refusals.specs.First.{Test, first, sound}
 use Rattle.refusals.proofs.First.{Clear, first_after}
 use Rattle.picture.specs.Sides.{seed_tests}

@@ -1,8 +1,7 @@
 -- `own` gives the first that applies of 9, 6, 10. Assumes nothing.
 use native.Mathlib.Omega.{arith}
 use mathlib.Core.Path.{sym, ◌∙◌}
-use borrow.Author.Rules.{rules}
-use borrow.Author.Tests.{eq-eqb, ne_eqb, not-true, not-false}
+use borrow.Author.Tests.{eq-eqb, ne_eqb}
 use Rattle.pieces.proofs.Index.{in_picture}
 use Rattle.regions.proofs.ladder.own.Goals as goal
 

@@ -1,7 +1,6 @@
 -- `chosen` goes by the byte: a number is sought in the age order, and a black piece's is at a known place. Assumes nothing.
 use native.Mathlib.Omega.{arith}
 use mathlib.Core.Path.{◌≡◌, refl}
-use borrow.Author.Rules.{rules}
 use Rattle.regions.specs.Numbers.{its_own, the_next, the_oldest}
 use Rattle.regions.proofs.number.chosen.Goals as goal
 

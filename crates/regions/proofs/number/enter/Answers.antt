@@ -3,7 +3,6 @@ use Prim.Native.Nat.{◌≤◌}
 use native.Mathlib.Omega.{arith}
 use mathlib.Core.Path.{refl}
 use lib.ListN.{length}
-use borrow.Author.Rules.{rules}
 use Rattle.regions.proofs.Asks.{fits_stack, can_number, can_number_again}
 use Rattle.regions.proofs.number.enter.Goals as goal
 

@@ -1,7 +1,6 @@
 -- `fill_back` fills an entry's piece back to black where it still shows its number. Assumes nothing.
 use native.Mathlib.Omega.{arith}
 use mathlib.Core.Path.{refl}
-use borrow.Author.Rules.{rules}
 use Rattle.regions.specs.Lookup.{in_paint, out_of_paint}
 use Rattle.regions.proofs.Asks.{place, can_paint}
 use Rattle.regions.proofs.number.fill_back.Goals as goal

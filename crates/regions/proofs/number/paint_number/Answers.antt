@@ -1,6 +1,5 @@
 -- `paint_number` paints the piece and answers its entry: what the fill counts is the piece's pixels. Assumes nothing.
 use native.Mathlib.Omega.{arith}
-use borrow.Author.Rules.{rules}
 use Rattle.regions.proofs.Asks.{few_pixels, measured}
 use Rattle.regions.proofs.number.paint_number.Goals as goal
 

@@ -7,7 +7,7 @@ use mathlib.Core.List.{◌∷◌}
 use lib.Dec.{leb}
 use Rattle.scanner.specs.Edges.{dark, edges_after}
 use Rattle.scanner.specs.Cuts.{is_cut, position}
-use Rattle.scanner.specs.Scan.{passed, ahead, OnLine, to_cut, to_end}
+use Rattle.scanner.specs.Scan.{passed, ahead, to_cut, to_end}
 use Rattle.scanner.proofs.Ahead.{run_bounds, next_edge, by_edge, at_end, stays_on}
 use Rattle.scanner.proofs.LineScanner.advance.Goals as goal
 

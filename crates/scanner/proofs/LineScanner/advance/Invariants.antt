@@ -1,14 +1,7 @@
 -- `advance` goes from edge to edge, and keeps what is ahead until a cut is met or the line ends. Assumes nothing.
-use Prim.Native.Nat.{◌+◌, ◌-◌, ◌≤◌, ◌<◌}
-use native.Mathlib.Omega.{arith}
-use mathlib.Core.Path.{◌≡◌, refl, sym, ◌∙◌}
-use mathlib.Core.Bool.{cond, ◌&&◌}
-use mathlib.Core.List.{◌∷◌}
-use lib.Dec.{leb}
-use Rattle.scanner.specs.Edges.{dark, edges_after}
-use Rattle.scanner.specs.Cuts.{is_cut, position}
-use Rattle.scanner.specs.Scan.{passed, ahead, OnLine, to_cut, to_end}
-use Rattle.scanner.proofs.Ahead.{run_bounds, next_edge, by_edge, at_end, stays_on}
+use Prim.Native.Nat.{◌-◌}
+use mathlib.Core.Path.{◌≡◌}
+use Rattle.scanner.specs.Scan.{ahead, OnLine}
 use Rattle.scanner.proofs.LineScanner.advance.Given as goal
 
 abbrev pub invariant-loop-s : goal.invariant-loop-s

@@ -6,7 +6,6 @@ use Rattle.refusals.specs.Limits.{longest_side}
 use Rattle.runs.specs.Mark.{Short}
 use Rattle.scanner.specs.Cuts.{lengths}
 use Rattle.scanner.proofs.RunEnds.{is_light, is_dark}
-use borrow.Author.Rules.{rules}
 use Rattle.scanner.proofs.LineScanner.is_cut.Goals as goal
 
 -- no run between columns of a line is longer than the line may be

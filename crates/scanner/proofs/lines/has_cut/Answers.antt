@@ -1,5 +1,4 @@
 -- `has_cut` asks a scan from the line's beginning whether it comes to a cut. Assumes nothing.
-use borrow.Author.Rules.{rules}
 use Rattle.scanner.proofs.Ahead.{begun_on}
 use Rattle.scanner.proofs.NextLine.{cut_some, done_none}
 use Rattle.scanner.proofs.lines.has_cut.Goals as goal

@@ -1,10 +1,7 @@
 -- `next_line` stops at the first line that has a cut, or below the last line. Assumes nothing.
 use Prim.Native.Nat.{◌-◌, ◌≤◌}
-use native.Mathlib.Omega.{arith}
-use mathlib.Core.Path.{◌≡◌, refl, sym, ◌∙◌}
-use Rattle.pieces.proofs.Index.{line_fits}
+use mathlib.Core.Path.{◌≡◌}
 use Rattle.scanner.specs.Lines.{next_line}
-use Rattle.scanner.proofs.NextLine.{line_here, line_on, line_last}
 use Rattle.scanner.proofs.lines.next_line.Given as goal
 
 abbrev pub invariant-loop-line : goal.invariant-loop-line

@@ -1,8 +1,7 @@
 -- `once_each` is the test of OnceEach: it goes down and marks what it has seen. Assumes nothing.
 use Prim.Native.Nat.{◌-◌}
 use native.Mathlib.Omega.{arith}
-use borrow.Author.Rules.{rules}
-use Rattle.table.proofs.Marks.{Marked, mark_begin, mark_large, mark_again, mark_more, mark_end}
+use Rattle.table.proofs.Marks.{mark_begin, mark_large, mark_again, mark_more, mark_end}
 use Rattle.table.proofs.age.once_each.Goals as goal
 
 pub loop-i-init : goal.loop-i-init

@@ -1,8 +1,5 @@
 -- `place_of` goes on from the front until it meets the number. Assumes nothing.
-use Prim.Native.Nat.{◌-◌}
-use lib.ListN.{length}
-use borrow.Author.Rules.{rules}
-use Rattle.table.proofs.Sought.{Sought, seek_begin, seek_on, seek_end}
+use Rattle.table.proofs.Sought.{seek_begin, seek_on, seek_end}
 use Rattle.table.proofs.age.place_of.Goals as goal
 
 pub loop-i-init : goal.loop-i-init

@@ -1,8 +1,7 @@
 -- `place_of` goes on from the front until it meets the number. Assumes nothing.
 use Prim.Native.Nat.{◌-◌}
 use lib.ListN.{length}
-use borrow.Author.Rules.{rules}
-use Rattle.table.proofs.Sought.{Sought, seek_begin, seek_on, seek_end}
+use Rattle.table.proofs.Sought.{Sought}
 use Rattle.table.proofs.age.place_of.Given as goal
 
 abbrev pub invariant-loop-i : goal.invariant-loop-i

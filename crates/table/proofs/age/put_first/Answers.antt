@@ -1,7 +1,6 @@
 -- `put_first` goes down from the place, and puts k into the place that is left. Assumes nothing.
 use native.Mathlib.Omega.{arith}
-use borrow.Author.Rules.{rules}
-use Rattle.table.proofs.Onward.{Onward, onward_begin, onward_on, onward_end}
+use Rattle.table.proofs.Onward.{onward_begin, onward_on, onward_end}
 use Rattle.table.proofs.age.put_first.Goals as goal
 
 pub loop-j-init : goal.loop-j-init

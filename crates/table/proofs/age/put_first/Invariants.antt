@@ -1,7 +1,5 @@
 -- `put_first` goes down from the place, and puts k into the place that is left. Assumes nothing.
-use native.Mathlib.Omega.{arith}
-use borrow.Author.Rules.{rules}
-use Rattle.table.proofs.Onward.{Onward, onward_begin, onward_on, onward_end}
+use Rattle.table.proofs.Onward.{Onward}
 use Rattle.table.proofs.age.put_first.Given as goal
 
 abbrev pub invariant-loop-j : goal.invariant-loop-j

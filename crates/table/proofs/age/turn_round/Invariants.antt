@@ -1,8 +1,6 @@
 -- `turn_round` turns the first n round, a place a turn. Assumes nothing.
 use Prim.Native.Nat.{◌-◌}
-use native.Mathlib.Omega.{arith}
-use borrow.Author.Rules.{rules}
-use Rattle.table.proofs.Round.{Turned, turn_begin, turn_on, turn_end}
+use Rattle.table.proofs.Round.{Turned}
 use Rattle.table.proofs.age.turn_round.Given as goal
 
 abbrev pub invariant-loop-i : goal.invariant-loop-i

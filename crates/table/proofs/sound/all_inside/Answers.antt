@@ -1,10 +1,8 @@
 -- `all_inside` is the test of the seeds: it goes down the entries. Assumes nothing.
-use Prim.Native.Nat.{◌-◌, ◌≤◌}
+use Prim.Native.Nat.{◌-◌}
 use native.Mathlib.Omega.{arith}
-use mathlib.Core.Path.{◌≡◌, refl, sym, ◌∙◌}
+use mathlib.Core.Path.{refl, sym, ◌∙◌}
 use borrow.Author.Rules.{rules}
-use borrow.Author.Tests.{not-true, not-false}
-use Rattle.table.specs.Sound.{all_inside}
 use Rattle.table.proofs.Seeds.{seed_out, seed_in, seeds_end}
 use Rattle.table.proofs.sound.all_inside.Goals as goal
 

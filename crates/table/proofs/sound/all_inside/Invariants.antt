@@ -1,11 +1,7 @@
 -- `all_inside` is the test of the seeds: it goes down the entries. Assumes nothing.
-use Prim.Native.Nat.{◌-◌, ◌≤◌}
-use native.Mathlib.Omega.{arith}
-use mathlib.Core.Path.{◌≡◌, refl, sym, ◌∙◌}
-use borrow.Author.Rules.{rules}
-use borrow.Author.Tests.{not-true, not-false}
+use Prim.Native.Nat.{◌≤◌}
+use mathlib.Core.Path.{◌≡◌}
 use Rattle.table.specs.Sound.{all_inside}
-use Rattle.table.proofs.Seeds.{seed_out, seed_in, seeds_end}
 use Rattle.table.proofs.sound.all_inside.Given as goal
 
 abbrev pub invariant-loop-i : goal.invariant-loop-i

@@ -1,5 +1,4 @@
 -- `entry_inside` is the test of one seed. Assumes nothing.
-use borrow.Author.Rules.{rules}
 use borrow.Author.Tests.{lt-ltb, le-ltb}
 use Rattle.table.proofs.sound.entry_inside.Goals as goal
 

@@ -1,12 +1,10 @@
 -- `timing_scan` counts point by point, until the scan is done. Assumes nothing.
-use Prim.Native.Nat.{◌+◌, ◌-◌}
 use native.Mathlib.Omega.{arith}
 use mathlib.Core.Path.{◌≡◌, sym, ◌∙◌}
 use Rattle.scans.specs.declared.Stepped.TheVariants.{Seen}
 use Rattle.scans.specs.Scan.{step_of}
 use Rattle.scans.proofs.Steps.{new_good, step_seen}
-use Rattle.timing.proofs.Counting.{Counting, none_counted, one_counted, all_counted}
-use borrow.Author.Rules.{rules}
+use Rattle.timing.proofs.Counting.{none_counted, one_counted, all_counted}
 use Rattle.timing.proofs.scan.timing_scan.Goals as goal
 
 pub loop-p-init : goal.loop-p-init

@@ -1,5 +1,4 @@
 -- `grid_size` is document 01's rule; the count is small enough for it. Assumes nothing.
-use borrow.Author.Rules.{rules}
 use borrow.Author.Tests.{lt-ltb, le-ltb}
 use Rattle.timing.specs.Counted.{grid_size}
 use Rattle.timing.proofs.size.grid_size.Goals as goal

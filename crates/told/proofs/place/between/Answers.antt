@@ -1,10 +1,6 @@
 -- `between` compares a number with both ends. Assumes nothing.
-use mathlib.Core.Path.{◌≡◌}
-use mir.Syntax.{w32}
-use mir.Val.{to_z, of_z}
 use mir.Facts.{to_z-of_z}
 use Rattle.told.specs.Points.{between}
-use borrow.Author.Rules.{rules}
 use Rattle.told.proofs.place.between.Goals as goal
 
 pub returns-then-low-z : goal.returns-then-low-z

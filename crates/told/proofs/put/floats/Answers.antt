@@ -1,7 +1,6 @@
 -- `put::floats` writes two floats into the first places. Assumes nothing.
 use mathlib.Core.List.{[], ◌∷◌}
 use native.Mathlib.Omega.{arith}
-use borrow.Author.Rules.{rules}
 use Rattle.told.proofs.Tell.{tell_values, stored_next}
 use Rattle.told.proofs.put.floats.Goals as goal
 

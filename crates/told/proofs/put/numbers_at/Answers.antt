@@ -1,7 +1,6 @@
 -- `put::numbers_at` writes two whole numbers from a place on. Assumes nothing.
 use native.Mathlib.Omega.{arith}
 use lib.ListN.{length-set}
-use borrow.Author.Rules.{rules}
 use Rattle.told.proofs.put.numbers_at.Goals as goal
 
 pub bounds-out-at-2 : goal.bounds-out-at-2

@@ -2,7 +2,6 @@
 use mathlib.Core.Path.{refl}
 use Rattle.told_claims.specs.Claims.{short, claims}
 use Rattle.told.proofs.Tell.{tell_refused}
-use borrow.Author.Rules.{rules}
 use Rattle.told_claims.proofs.claims.claim.Goals as goal
 
 pub returns-then-counts-lt3 : goal.returns-then-counts-lt3

@@ -1,7 +1,6 @@
 -- `put_claimed` writes the counts of a claim that was made, and refuses as it does. Assumes nothing.
 use Rattle.told_claims.specs.Claims.{count_values}
 use Rattle.told.proofs.Tell.{tell_refused}
-use borrow.Author.Rules.{rules}
 use Rattle.told_claims.proofs.claims.put_claimed.Goals as goal
 
 pub returns-in-Done : goal.returns-in-Done

@@ -4,7 +4,6 @@ use native.Mathlib.Omega.{arith}
 use lib.ListN.{length-set}
 use Rattle.told_claims.specs.Claims.{count_values}
 use Rattle.told.proofs.Tell.{tell_values, stored_three}
-use borrow.Author.Rules.{rules}
 use Rattle.told_claims.proofs.claims.put_counts.Goals as goal
 
 pub bounds-out-1 : goal.bounds-out-1

@@ -1,10 +1,8 @@
 -- `list_rows` paints its piece and writes each row: each need is a law of Listing. Assumes nothing.
 use native.Mathlib.Omega.{arith}
 use borrow.Author.Rules.{rules}
-use lib.ListN.{length}
-use Rattle.fill.proofs.Filling.{task_of, room_some}
-use Rattle.fill.proofs.Measure.{to_do}
-use Rattle.told_claims.proofs.Listing.{Listing, listing_begun, listing_asks, listing_length, listing_room, listing_met, listing_met_less, listing_passed, listing_passed_less, listing_end}
+use Rattle.fill.proofs.Filling.{room_some}
+use Rattle.told_claims.proofs.Listing.{listing_begun, listing_asks, listing_length, listing_room, listing_met, listing_met_less, listing_passed, listing_passed_less, listing_end}
 use Rattle.told_claims.proofs.rows.list_rows.Goals as goal
 
 pub seed-from-requires : goal.seed-from-requires

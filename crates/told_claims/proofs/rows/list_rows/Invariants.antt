@@ -1,10 +1,8 @@
 -- `list_rows` paints its piece and writes each row: each need is a law of Listing. Assumes nothing.
-use native.Mathlib.Omega.{arith}
-use borrow.Author.Rules.{rules}
 use lib.ListN.{length}
-use Rattle.fill.proofs.Filling.{task_of, room_some}
+use Rattle.fill.proofs.Filling.{task_of}
 use Rattle.fill.proofs.Measure.{to_do}
-use Rattle.told_claims.proofs.Listing.{Listing, listing_begun, listing_asks, listing_length, listing_room, listing_met, listing_met_less, listing_passed, listing_passed_less, listing_end}
+use Rattle.told_claims.proofs.Listing.{Listing}
 use Rattle.told_claims.proofs.rows.list_rows.Given as goal
 
 abbrev pub invariant-loop-sp : goal.invariant-loop-sp

@@ -1,7 +1,6 @@
 -- `put_row` writes a row's three numbers from a place on. Assumes nothing.
 use native.Mathlib.Omega.{arith}
 use lib.ListN.{length-set}
-use borrow.Author.Rules.{rules}
 use Rattle.told_claims.proofs.rows.put_row.Goals as goal
 
 pub bounds-out-at-2 : goal.bounds-out-at-2

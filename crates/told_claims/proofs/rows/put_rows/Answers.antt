@@ -1,17 +1,16 @@
 -- `put_rows` lists the rows of a piece that can be claimed, once there are places for them. Assumes nothing.
 use Prim.Native.Nat.{◌/◌}
-use mathlib.Core.Path.{◌≡◌, refl, ap, ◌∙◌}
-use mathlib.Core.Logic.{◌⊎◌, inl, inr}
-use mathlib.Core.List.{[], ◌∷◌}
+use mathlib.Core.Path.{◌≡◌, refl}
+use mathlib.Core.Logic.{inl, inr}
+use mathlib.Core.List.{[]}
 use native.Mathlib.Nat.{mul-le-mul}
 use native.Mathlib.Omega.{arith}
 use lib.ListN.{length}
 use Rattle.fill.specs.Order.{rows_met}
 use Rattle.claim.proofs.Accepted.{claim_fillable, claim_seeded}
-use Rattle.told_claims.specs.Rows.{row_numbers, refuses, short, lists}
+use Rattle.told_claims.specs.Rows.{row_numbers, short, lists}
 use Rattle.told.proofs.Tell.{tell_refused, tell_values, stored_next}
 use Rattle.told_claims.proofs.Listing.{listed_length}
-use borrow.Author.Rules.{rules}
 use Rattle.told_claims.proofs.rows.put_rows.Goals as goal
 
 pub overflow_mul-width : goal.overflow_mul-width

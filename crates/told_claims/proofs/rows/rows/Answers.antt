@@ -3,7 +3,6 @@ use mathlib.Core.Path.{refl, sym, ap, ◌∙◌}
 use Rattle.picture.specs.Verdict.{judged}
 use Rattle.told_claims.specs.Rows.{refuses}
 use Rattle.told.proofs.Tell.{tell_refused}
-use borrow.Author.Rules.{rules}
 use Rattle.told_claims.proofs.rows.rows.Goals as goal
 
 pub put_rows-requires : goal.put_rows-requires

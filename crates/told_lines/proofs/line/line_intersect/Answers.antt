@@ -1,7 +1,6 @@
 -- `line_intersect` tells a crossing, once four points and two places are there. Assumes nothing.
 use Rattle.told_lines.specs.Answers.{cross_answer}
 use Rattle.told.proofs.Tell.{tell_short, tell_enough}
-use borrow.Author.Rules.{rules}
 use Rattle.told_lines.proofs.line.line_intersect.Goals as goal
 
 pub returns-then-points-lt8 : goal.returns-then-points-lt8

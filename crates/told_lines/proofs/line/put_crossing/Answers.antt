@@ -7,7 +7,6 @@ use Rattle.told.specs.Points.{leaves}
 use Rattle.told_lines.specs.Answers.{cross_values}
 use Rattle.told.proofs.Tell.{tell_first, tell_next}
 use Rattle.told.proofs.Reach.{pixel}
-use borrow.Author.Rules.{rules}
 use Rattle.told_lines.proofs.line.put_crossing.Goals as goal
 
 pub returns-then-leaves : goal.returns-then-leaves

@@ -1,4 +1,3 @@
-use Prim.Native.Nat.{◌+◌, ◌-◌}
 use native.Mathlib.Omega.{arith}
 use mathlib.Core.Path.{◌≡◌, sym, ◌∙◌}
 use mir.Syntax.{w32}
@@ -8,11 +7,7 @@ use Rattle.scans.specs.Scan.{step_of}
 use Rattle.scans.proofs.Steps.{step_seen}
 use borrow.Author.Rules.{rules}
 use Rattle.told.proofs.Tell.{tell_values}
-use Rattle.told_lines.proofs.Scanned.{Written, none_written, all_written, same_room, two_left, more_written}
-use Rattle.told_lines.proofs.scan.put_points.Reads as reads
-use Rattle.told_lines.proofs.scan.put_points.Lts as lts
-use Rattle.told.proofs.put.numbers_at.Reads as numbers-at-reads
-use Rattle.scans.proofs.BresenhamScan.step.Reads as step-reads
+use Rattle.told_lines.proofs.Scanned.{none_written, all_written, same_room, two_left, more_written}
 use Rattle.told_lines.proofs.scan.put_points.Goals as goal
 
 pub loop-p-init : goal.loop-p-init

@@ -9,7 +9,6 @@ use Rattle.told_lines.specs.Answers.{scan_answer}
 use Rattle.told.proofs.Tell.{tell_first, tell_next, tell_short, tell_enough}
 use Rattle.told.proofs.Reach.{reached}
 use Rattle.told_lines.proofs.Scanned.{scan_length}
-use borrow.Author.Rules.{rules}
 use Rattle.told_lines.proofs.scan.put_scan.Goals as goal
 
 pub returns-then-leaves : goal.returns-then-leaves

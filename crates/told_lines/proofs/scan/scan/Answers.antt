@@ -1,6 +1,5 @@
 -- `scan` tells the points of the scan between two ends. Assumes nothing.
 use mir.Facts.{to_z-of_z}
-use borrow.Author.Rules.{rules}
 use Rattle.told_lines.proofs.scan.scan.Goals as goal
 
 pub returns : goal.returns

@@ -1,7 +1,6 @@
 -- `put_floats` writes eight coefficients from a place on. Assumes nothing.
 use native.Mathlib.Omega.{arith}
 use lib.ListN.{length-set}
-use borrow.Author.Rules.{rules}
 use Rattle.told_places.proofs.Places.{put_eight}
 use Rattle.told_places.proofs.coefficients.put_floats.Goals as goal
 

@@ -1,6 +1,5 @@
 -- `put_counts` writes two numbers behind the entries. Assumes nothing.
 use mathlib.Core.Path.{refl}
-use borrow.Author.Rules.{rules}
 use Rattle.told_places.specs.Put.{put_at}
 use Rattle.told_places.proofs.entries.put_counts.Goals as goal
 

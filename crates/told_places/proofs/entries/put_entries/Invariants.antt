@@ -1,12 +1,9 @@
 -- `put_entries` writes a table's places one after the other. Assumes nothing.
 use Prim.Native.Nat.{◌-◌, ◌≤◌}
-use native.Mathlib.Omega.{arith}
-use mathlib.Core.Path.{◌≡◌, refl, sym, ◌∙◌}
+use mathlib.Core.Path.{◌≡◌}
 use lib.ListN.{length}
-use borrow.Author.Rules.{rules}
 use Rattle.told_places.specs.Put.{put_each}
 use Rattle.told_places.specs.Values.{table_numbers}
-use Rattle.told_places.proofs.Places.{each_next, each_last}
 use Rattle.told_places.proofs.entries.put_entries.Given as goal
 
 abbrev pub invariant-loop-k : goal.invariant-loop-k

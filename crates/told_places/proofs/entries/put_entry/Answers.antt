@@ -1,7 +1,6 @@
 -- `put_entry` writes four numbers from a place on. Assumes nothing.
 use native.Mathlib.Omega.{arith}
 use lib.ListN.{length-set}
-use borrow.Author.Rules.{rules}
 use Rattle.told_places.proofs.Places.{put_four}
 use Rattle.told_places.proofs.entries.put_entry.Goals as goal
 

@@ -3,7 +3,6 @@ use mathlib.Core.Path.{ap}
 use mathlib.Core.List.{List}
 use lib.ListN.{set}
 use Prim.Native.Nat.{ℕ}
-use borrow.Author.Rules.{rules}
 use Rattle.told_places.specs.Put.{put_at}
 use Rattle.told_places.proofs.entries.put_table.Goals as goal
 

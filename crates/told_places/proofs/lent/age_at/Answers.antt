@@ -1,5 +1,4 @@
 -- `age_at` reads a number, held to what a byte holds. Assumes nothing.
-use borrow.Author.Rules.{rules}
 use Rattle.told_places.specs.Lent.{age_at}
 use Rattle.told_places.proofs.lent.age_at.Goals as goal
 

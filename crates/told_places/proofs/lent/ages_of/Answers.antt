@@ -1,10 +1,7 @@
 -- `ages_of` stores the lent numbers one after the other. Assumes nothing.
-use Prim.Native.Nat.{◌-◌, ◌≤◌}
 use native.Mathlib.Omega.{arith}
 use mathlib.Core.Path.{◌≡◌, sym, ◌∙◌}
-use borrow.Author.Rules.{rules}
-use Rattle.told_places.specs.Lent.{age_at}
-use Rattle.told_places.proofs.Stored.{filled, filled_none, filled_more, filled_all}
+use Rattle.told_places.proofs.Stored.{filled_none, filled_more, filled_all}
 use Rattle.told_places.proofs.lent.ages_of.Goals as goal
 
 pub loop-k-init : goal.loop-k-init

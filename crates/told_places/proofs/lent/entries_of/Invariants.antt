@@ -1,11 +1,9 @@
 -- `entries_of` stores the lent entries one after the other. Assumes nothing.
 use Prim.Native.Nat.{◌-◌, ◌≤◌}
-use native.Mathlib.Omega.{arith}
-use mathlib.Core.Path.{◌≡◌, sym, ◌∙◌}
-use borrow.Author.Rules.{rules}
+use mathlib.Core.Path.{◌≡◌}
 use Rattle.table.specs.Table.{blank}
 use Rattle.told_places.specs.Lent.{entry_at}
-use Rattle.told_places.proofs.Stored.{filled, filled_none, filled_more, filled_all}
+use Rattle.told_places.proofs.Stored.{filled}
 use Rattle.told_places.proofs.lent.entries_of.Given as goal
 
 abbrev pub invariant-loop-k : goal.invariant-loop-k

@@ -1,5 +1,4 @@
 -- `entry_at` reads three numbers, each held to what its place holds. Assumes nothing.
-use borrow.Author.Rules.{rules}
 use Rattle.told_places.specs.Lent.{entry_at}
 use Rattle.told_places.proofs.lent.entry_at.Goals as goal
 

@@ -1,5 +1,4 @@
 -- `table_of` puts a table together. Assumes nothing.
-use borrow.Author.Rules.{rules}
 use Rattle.told_places.specs.Lent.{table_of}
 use Rattle.told_places.proofs.lent.table_of.Goals as goal
 

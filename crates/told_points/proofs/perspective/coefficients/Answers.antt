@@ -1,7 +1,6 @@
 -- `coefficients` writes a perspective's eight coefficients into the first places. Assumes nothing.
 use native.Mathlib.Omega.{arith}
 use lib.ListN.{length-set}
-use borrow.Author.Rules.{rules}
 use Rattle.told_points.specs.Answers.{sight_values}
 use Rattle.told.proofs.Tell.{tell_values, stored_eight}
 use Rattle.told_points.proofs.perspective.coefficients.Goals as goal

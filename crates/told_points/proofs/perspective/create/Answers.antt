@@ -1,7 +1,6 @@
 -- `create` tells the perspective of four corners, once all are there and there are places for it. Assumes nothing.
 use Rattle.told_points.specs.Answers.{create_answer}
 use Rattle.told.proofs.Tell.{tell_short, tell_enough}
-use borrow.Author.Rules.{rules}
 use Rattle.told_points.proofs.perspective.create.Goals as goal
 
 pub returns-then-corners-lt8 : goal.returns-then-corners-lt8

@@ -1,7 +1,6 @@
 -- `map` tells where a point of the grid lies, once the coefficients and two places are there. Assumes nothing.
 use Rattle.told_points.specs.Answers.{map_answer}
 use Rattle.told.proofs.Tell.{tell_short, tell_enough}
-use borrow.Author.Rules.{rules}
 use Rattle.told_points.proofs.perspective.map.Goals as goal
 
 pub returns-then-c-lt8 : goal.returns-then-c-lt8

@@ -1,7 +1,6 @@
 -- `put_sight` writes the coefficients of a perspective that was made, and nothing of a flat one. Assumes nothing.
 use Rattle.told_points.specs.Answers.{sight_values}
 use Rattle.told.proofs.Tell.{tell_nothing}
-use borrow.Author.Rules.{rules}
 use Rattle.told_points.proofs.perspective.put_sight.Goals as goal
 
 pub returns-in-Made : goal.returns-in-Made

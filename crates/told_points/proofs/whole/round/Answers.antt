@@ -1,7 +1,6 @@
 -- `round` tells the nearest whole number, once there is a place for it. Assumes nothing.
 use Rattle.told_points.specs.Answers.{round_answer}
 use Rattle.told.proofs.Tell.{tell_short, tell_enough}
-use borrow.Author.Rules.{rules}
 use Rattle.told_points.proofs.whole.round.Goals as goal
 
 pub returns-then-out-lt1 : goal.returns-then-out-lt1

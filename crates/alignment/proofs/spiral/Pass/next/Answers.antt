@@ -1,5 +1,4 @@
 -- `next` goes on along the leg, or turns. Assumes nothing.
-use borrow.Author.Rules.{rules}
 use borrow.Author.Tests.{lt-ltb, le-ltb, eq-eqb, ne_eqb}
 use Rattle.alignment.specs.Spiral.{turned_to, next_pass}
 use Rattle.alignment.proofs.spiral.Pass.next.Goals as goal

@@ -1,6 +1,4 @@
 -- `new` starts with `initial` in all four directions, scored as the other points are. Assumes nothing.
-use mathlib.Core.Path.{◌≡◌, sym, subst}
-use Rattle.points.specs.declared.Point.{Point}
 use Rattle.corners.specs.Scores.{Direction, along_of, across_of, behind_of, left_of}
 use Rattle.corners.specs.Finders.{all_corners_from}
 use Rattle.corners.proofs.Signed.{Is, is_fits, is_back, is_opposite}

@@ -1,6 +1,4 @@
 -- A point that the four corners' finder sees is scored in each direction. Assumes nothing.
-use borrow.Author.Rules.{rules}
-use mathlib.Core.Path.{◌≡◌}
 use Rattle.corners.specs.Scores.{along_of, across_of, behind_of, left_of}
 use Rattle.corners.specs.Finders.{all_corners_see}
 use Rattle.corners.proofs.Signed.{Is, is_fits, is_back, is_opposite}

@@ -1,5 +1,4 @@
 -- A point that the first corner's finder sees is scored by its distance. Assumes nothing.
-use borrow.Author.Rules.{rules}
 use mir.Facts.{to_z-of_z}
 use Rattle.corners.specs.Finders.{first_corner_sees}
 use Rattle.corners.proofs.first_corner.FirstCornerFinder.see.Goals as goal

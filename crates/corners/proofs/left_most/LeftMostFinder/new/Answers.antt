@@ -1,5 +1,4 @@
 -- `new` starts with the point given, scored as the others are. Assumes nothing.
-use borrow.Author.Rules.{rules}
 use mir.Facts.{to_z-of_z}
 use Rattle.corners.specs.Finders.{left_most_from}
 use Rattle.corners.proofs.left_most.LeftMostFinder.new.Goals as goal

@@ -1,5 +1,4 @@
 -- A point that the leftmost finder sees is scored by how far to the left it lies. Assumes nothing.
-use borrow.Author.Rules.{rules}
 use mir.Facts.{to_z-of_z}
 use Rattle.corners.specs.Finders.{left_most_sees}
 use Rattle.corners.proofs.left_most.LeftMostFinder.see.Goals as goal
