@@ -1,6 +1,5 @@
 -- `put_findings` goes by the verdict. Assumes nothing.
 use native.Mathlib.Omega.{arith}
-use borrow.Author.Rules.{rules}
 use Rattle.laid.specs.Laid.{told}
 use Rattle.detect.specs.Telling.{tells}
 use Rattle.report.proofs.Putting.{puts_within}

@@ -12,7 +12,8 @@ put_grid-next-requires c = omega (arith, c.loop-k.invariant.0.short, c.requires.
 pub loop-k-preserved : goal.loop-k-preserved
 loop-k-preserved c =
     let long : length c.args.grids ≡ 31 = search rules in
-    (lines_next c.args.grids c.loop-k.k _ (omega (arith, long, c.requires.0)) c.loop-k.invariant.0 (rw c.line_of.ensures at c.put_grid-next.ensures), omega arith)
+    let put = rw c.line_of.ensures at c.put_grid-next.ensures in
+    (lines_next c.args.grids c.loop-k.k _ (omega (arith, long, c.requires.0)) c.loop-k.invariant.0 put, omega arith)
 
 pub returns : goal.returns
 returns c =
