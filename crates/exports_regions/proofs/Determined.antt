@@ -4,7 +4,7 @@ use native.Mathlib.Omega.{arith}
 use mathlib.Core.Path.{◌≡◌, sym, ap, ◌∙◌}
 use mathlib.Core.List.{List}
 use Rattle.regions.proofs.Unique.{post_unique}
-use Rattle.exports_regions.specs.Tells.{status_of, counts_after, Tells, short, told}
+use Rattle.exports_regions.specs.Tells.{status_of, Tells, short, told}
 
 pub tells_determined : {p : List ℕ} {w h lent x y : ℕ} {s p₁ p₂ s₁ s₂ : List ℕ} {n₁ n₂ : ℕ}
     → Tells p w h lent x y p₁ s s₁ n₁ → Tells p w h lent x y p₂ s s₂ n₂ → (p₁ ≡ p₂) × (s₁ ≡ s₂) × (n₁ ≡ n₂)

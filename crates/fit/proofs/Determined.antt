@@ -6,7 +6,6 @@ use mathlib.Core.Bool.{true, false}
 use mathlib.Core.List.{List}
 use lib.ListN.{length}
 use Rattle.refusals.specs.Finding.{Finding, refused}
-use Rattle.refusals.specs.First.{sound}
 use Rattle.picture.specs.Sides.{Roomy}
 use Rattle.table.specs.Table.{most}
 use Rattle.table.specs.declared.Table.{Table}

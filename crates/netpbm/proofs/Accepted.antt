@@ -1,5 +1,5 @@
 -- A file that the reader accepts is of the form: from each state on, what is left of the file is the rest of the form. Assumes nothing.
-use Prim.Native.Nat.{ℕ, ◌+◌, ◌-◌, ◌*◌, ◌≤◌, ◌<◌}
+use Prim.Native.Nat.{ℕ, ◌+◌, ◌*◌, ◌≤◌, ◌<◌}
 use native.Mathlib.Omega.{arith}
 use mathlib.Core.Path.{◌≡◌, refl, sym, ap, subst, ◌∙◌}
 use mathlib.Core.Bool.{Bool, true, false, cond}
@@ -8,7 +8,7 @@ use lib.Dec.{leb, eqb}
 use lib.ListN.{length}
 use borrow.Author.Tests.{leb-true, eqb-true}
 use Rattle.netpbm.specs.Form.{most_pixels, space, digit, bit, all, said_after, Gap, Numeral, white_or_bit, pixels_in, BeginsWhite, Picture, Form}
-use Rattle.netpbm.specs.Machine.{none, takes, longer, in_width, in_height, sized, takes_pixel, in_pixels, stepped, kept, Reading, reading, next, fed, ended_at, ended_in}
+use Rattle.netpbm.specs.Machine.{none, takes, longer, in_width, in_height, sized, takes_pixel, in_pixels, stepped, kept, Reading, reading, fed, ended_at, ended_in}
 use Rattle.netpbm.specs.declared.Number.{Number}
 use Rattle.netpbm.specs.declared.Body.{Body}
 use Rattle.netpbm.specs.declared.Input.{Input}

@@ -1,15 +1,12 @@
 -- What a byte keeps: the bounds of a state, and how many pixels are lent. Assumes nothing.
-use Prim.Native.Nat.{ℕ, ◌+◌, ◌-◌, ◌*◌, ◌<◌}
+use Prim.Native.Nat.{ℕ, ◌-◌, ◌*◌, ◌<◌}
 use native.Mathlib.Omega.{arith}
 use mathlib.Core.Path.{◌≡◌, refl, ◌∙◌}
 use mathlib.Core.Bool.{Bool, true, false, cond}
-use mathlib.Core.Logic.{inl, inr}
 use mathlib.Core.List.{List, [], ◌∷◌, ◌++◌}
 use lib.Dec.{leb, eqb}
 use lib.ListN.{length, set, length-set}
 use borrow.Author.Tests.{leb-true}
-use denote.Enum.Declared.{tag_of}
-use types.Run.{OneOf}
 use Rattle.netpbm.specs.Form.{most_pixels, space}
 use Rattle.netpbm.specs.Machine.{none, takes, in_width, in_height, sized, takes_pixel, in_pixels, stepped, kept_in, kept, Reading, next, fed, ended_in, Below, Within, Bounded}
 use Rattle.netpbm.specs.declared.Number.{Number}
@@ -17,7 +14,6 @@ use Rattle.netpbm.specs.declared.Body.{Body}
 use Rattle.netpbm.specs.declared.Input.TheVariants.{Refused}
 use Rattle.netpbm.specs.declared.Reader.{Reader}
 use Rattle.netpbm.specs.declared.Reader.TheVariants.{Nothing, Letter, Magic, BeforeWidth, Width, BeforeHeight, Height, Pixels, Broken}
-use Rattle.netpbm.specs.contracts.Reader.{the_type}
 use Rattle.netpbm.proofs.Numbers.{none_below, longer_below, below_most, takes_pixel_told}
 
 -- both ways out of a test

@@ -1,5 +1,4 @@
 -- `bounds_of` maps the four bounds. Assumes nothing.
-use borrow.Author.Rules.{rules}
 use lib.Ieee.{of_bits}
 use Rattle.bounds.specs.Bounds.{bounded_of}
 use Rattle.bounds.proofs.bounds_of.Goals as goal

@@ -1,5 +1,4 @@
 -- `with_bounds` goes by the four bounds, one after the other. Assumes nothing.
-use borrow.Author.Rules.{rules}
 use Rattle.bounds.specs.Bounds.{with_bounds}
 use Rattle.bounds.proofs.with_bounds.Goals as goal
 

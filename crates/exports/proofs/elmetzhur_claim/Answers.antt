@@ -1,5 +1,4 @@
 -- `elmetzhur_claim` tells what the claim tells. Assumes nothing.
-use borrow.Author.Rules.{rules}
 use Rattle.exports.proofs.elmetzhur_claim.Goals as goal
 
 pub returns : goal.returns

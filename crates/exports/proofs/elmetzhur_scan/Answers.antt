@@ -1,6 +1,5 @@
 -- `elmetzhur_scan` tells what the scan tells. Assumes nothing.
 use mir.Facts.{to_z-of_z}
-use borrow.Author.Rules.{rules}
 use Rattle.exports.proofs.elmetzhur_scan.Goals as goal
 
 pub returns : goal.returns

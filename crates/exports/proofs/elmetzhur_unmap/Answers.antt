@@ -1,6 +1,5 @@
 -- `elmetzhur_unmap` tells what `unmap` tells. Assumes nothing.
 use mir.Facts.{to_z-of_z}
-use borrow.Author.Rules.{rules}
 use Rattle.exports.proofs.elmetzhur_unmap.Goals as goal
 
 pub returns : goal.returns

@@ -1,5 +1,4 @@
 -- `elmetzhur_read_cell` reads a cell once there is a perspective, and tells it. Assumes nothing.
-use borrow.Author.Rules.{rules}
 use borrow.Author.Tests.{lt-ltb, le-ltb}
 use Rattle.exports_cells.specs.Tells.{cell_told}
 use Rattle.exports_cells.proofs.elmetzhur_read_cell.Goals as goal

@@ -1,5 +1,4 @@
 -- `number_of_cell` tells a cell by its number. Assumes nothing.
-use borrow.Author.Rules.{rules}
 use Rattle.exports_cells.specs.Tells.{cell_number}
 use Rattle.exports_cells.proofs.number_of_cell.Goals as goal
 

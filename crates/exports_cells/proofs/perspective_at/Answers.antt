@@ -1,7 +1,6 @@
 -- `perspective_at` reads a perspective from its eight coefficients. Assumes nothing.
 use mathlib.Core.Path.{refl}
 use Rattle.exports_cells.specs.Tells.{perspective_at}
-use borrow.Author.Rules.{rules}
 use Rattle.exports_cells.proofs.perspective_at.Goals as goal
 
 pub returns : goal.returns

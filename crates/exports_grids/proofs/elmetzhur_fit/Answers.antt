@@ -1,7 +1,6 @@
 -- `elmetzhur_fit` fits once there are places for what it tells, and tells it. Assumes nothing.
 use mathlib.Core.Path.{refl}
 use mathlib.Core.Logic.{inl, inr}
-use borrow.Author.Rules.{rules}
 use Rattle.exports_grids.specs.Tells.{short, told}
 use Rattle.exports_grids.proofs.elmetzhur_fit.Goals as goal
 

@@ -1,7 +1,6 @@
 -- `elmetzhur_capstones` searches once there are places for what it tells, and tells it. Assumes nothing.
 use mathlib.Core.Path.{refl}
 use mathlib.Core.Logic.{inl, inr}
-use borrow.Author.Rules.{rules}
 use Rattle.exports_marks.specs.Tells.{short, told}
 use Rattle.exports_marks.proofs.elmetzhur_capstones.Goals as goal
 

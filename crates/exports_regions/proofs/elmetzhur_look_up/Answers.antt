@@ -1,6 +1,5 @@
 -- `elmetzhur_look_up` looks up once there are places for what it tells, and tells it. Assumes nothing.
 use mathlib.Core.Path.{refl}
-use borrow.Author.Rules.{rules}
 use Rattle.regions.specs.Found.{meaning}
 use Rattle.exports_regions.specs.Tells.{short, told}
 use Rattle.exports_regions.proofs.Colours.{look_shown}

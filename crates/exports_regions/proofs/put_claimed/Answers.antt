@@ -1,6 +1,5 @@
 -- `put_claimed` writes the byte of a colour, and 0. Assumes nothing.
 use mathlib.Core.Path.{refl}
-use borrow.Author.Rules.{rules}
 use Rattle.exports_regions.proofs.put_claimed.Goals as goal
 
 pub returns : goal.returns

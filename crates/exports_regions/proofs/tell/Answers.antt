@@ -1,6 +1,5 @@
 -- `tell` writes a claimed or an unclaimed region, or tells a refusal's number. Assumes nothing.
 use mathlib.Core.Path.{refl}
-use borrow.Author.Rules.{rules}
 use Rattle.exports_regions.specs.Tells.{status_of, counts_after}
 use Rattle.exports_regions.proofs.tell.Goals as goal
 

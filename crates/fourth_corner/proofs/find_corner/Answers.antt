@@ -1,6 +1,5 @@
 -- `find_corner` goes by the size, then by the estimate. Assumes nothing.
 use mathlib.Core.Path.{refl, sym, ap, ◌∙◌}
-use borrow.Author.Rules.{rules}
 use Rattle.alignment.specs.Estimate as estimate
 use Rattle.alignment.proofs.Areas.{estimate_few}
 use Rattle.fourth_corner.specs.Corner.{plain, unguessed, sought}

@@ -1,7 +1,6 @@
 -- `seek` claims the place that the search answers, if it answers one. Assumes nothing.
 use native.Mathlib.Omega.{arith}
 use mathlib.Core.Path.{refl, ap}
-use borrow.Author.Rules.{rules}
 use Rattle.alignment.specs.Search.{meaning}
 use Rattle.alignment.proofs.Spiralling.{still_roomy}
 use Rattle.alignment.proofs.Sighted.{search_sights}

@@ -1,6 +1,5 @@
 -- `located` puts the size, which is a byte, beside the perspective. Assumes nothing.
 use mathlib.Core.Path.{refl}
-use borrow.Author.Rules.{rules}
 use Rattle.grids.specs.Grid.{grid_of}
 use Rattle.grids.proofs.located.Goals as goal
 

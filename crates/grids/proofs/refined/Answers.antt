@@ -1,6 +1,5 @@
 -- `refined` hands on what refinement arrives at. Assumes nothing.
 use mathlib.Core.Path.{sym, ap, ◌∙◌}
-use borrow.Author.Rules.{rules}
 use Rattle.refine.specs.Refine as refine
 use Rattle.grids.specs.Grid.{grid_of, refined_grid}
 use Rattle.grids.proofs.refined.Goals as goal

@@ -1,5 +1,4 @@
 -- `setup_perspective` tests the version, then the corners. Assumes nothing.
-use borrow.Author.Rules.{rules}
 use borrow.Author.Tests.{le-leb, lt-leb}
 use Rattle.version_db.specs.AnnexE.{version_of}
 use Rattle.grids.specs.Grid.{seen_grid, set_up}

@@ -1,10 +1,8 @@
 -- `feed` takes byte after byte: the bytes that are left lead where the whole chunk leads. Assumes nothing.
 use Prim.Native.Nat.{◌-◌}
-use mathlib.Core.Path.{sym, ◌∙◌}
 use lib.ListN.{length}
-use borrow.Author.Rules.{rules}
 use Rattle.netpbm.specs.Machine.{reading}
-use Rattle.netpbm.proofs.Feeding.{Feeding, reading_room, feeds, feeds_on, fed_whole}
+use Rattle.netpbm.proofs.Feeding.{Feeding}
 use Rattle.netpbm.proofs.feed.Given as goal
 
 abbrev pub invariant-loop-i : goal.invariant-loop-i

@@ -4,7 +4,6 @@ use Rattle.netpbm.specs.Machine.{ended_in, Bounded}
 use Rattle.netpbm.specs.declared.Input.TheVariants.{Refused}
 use Rattle.netpbm.proofs.Steps.{stepped_bounded, other_ends}
 use Rattle.netpbm.proofs.Told.{told}
-use borrow.Author.Rules.{rules}
 use Rattle.netpbm.proofs.finish.Goals as goal
 
 pub ended-requires : goal.ended-requires

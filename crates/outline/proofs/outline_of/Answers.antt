@@ -1,6 +1,5 @@
 -- `outline_of` puts the stones in order and turns them. Assumes nothing.
 use mathlib.Core.Path.{◌≡◌, sym, ap, ◌∙◌}
-use borrow.Author.Rules.{rules}
 use Rattle.refusals.specs.Finding.{found}
 use Rattle.groups.specs.Rotate as rotate
 use Rattle.groups.specs.Rotate.{rotated_group}

@@ -1,6 +1,5 @@
 -- `outline_turned` goes by what the timing pattern tells. Assumes nothing.
 use mathlib.Core.Path.{sym, ap, ◌∙◌}
-use borrow.Author.Rules.{rules}
 use Rattle.timing.specs.Measure as timing
 use Rattle.outline.specs.Outline.{measured_outline, sized_outline}
 use Rattle.outline.proofs.outline_turned.Goals as goal

@@ -1,6 +1,5 @@
 -- `with_corner` draws the outline where its corner is not refused. Assumes nothing.
 use mathlib.Core.Path.{sym, ap, ◌∙◌}
-use borrow.Author.Rules.{rules}
 use Rattle.stated.specs.Stated as stated
 use Rattle.outline.specs.Outline.{cornered, judged_outline}
 use Rattle.outline.proofs.with_corner.Goals as goal

@@ -1,5 +1,4 @@
 -- `with_size` goes by where the lines meet. Assumes nothing.
-use borrow.Author.Rules.{rules}
 use Rattle.outline.specs.Outline.{met_outline, crossed_outline}
 use Rattle.outline.proofs.with_size.Goals as goal
 

@@ -1,14 +1,9 @@
 -- `jiggle_perspective` makes one pass after the other, with adjustments halved in between. Assumes nothing.
 use Prim.Native.Nat.{◌-◌, ◌≤◌}
-use native.Mathlib.Numerals.{add-one}
-use native.Mathlib.Omega.{arith}
-use mathlib.Core.Path.{◌≡◌, refl}
+use mathlib.Core.Path.{◌≡◌}
 use Rattle.fitness.specs.Fitness.{fitness_of}
-use Rattle.cell_fitness.proofs.Decimals.{five_tenths}
 use Rattle.refine.specs.Adjust.{adjustments}
-use Rattle.refine.specs.Refine.{meaning, passes, refined}
-use Rattle.refine.proofs.Steps.{two_hundredths}
-use borrow.Author.Rules.{rules}
+use Rattle.refine.specs.Refine.{meaning, passes}
 use Rattle.refine.proofs.jiggle_perspective.Given as goal
 
 abbrev pub invariant-loop-n : goal.invariant-loop-n

@@ -1,8 +1,6 @@
 -- `is_made_of` compares the sizes, and corner by corner. Assumes nothing.
 use mathlib.Core.Path.{sym}
 use mathlib.Core.Bool.{true≢false}
-use borrow.Author.Rules.{rules}
-use borrow.Author.Tests.{not-false}
 use Rattle.setups.proofs.is_made_of.Goals as goal
 
 pub returns-then-s-size : goal.returns-then-s-size

@@ -1,5 +1,4 @@
 -- `no_setup` takes the blank stone's centre and perspective. Assumes nothing.
-use borrow.Author.Rules.{rules}
 use Rattle.setups.proofs.no_setup.Goals as goal
 
 pub returns : goal.returns

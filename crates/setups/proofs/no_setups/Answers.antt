@@ -1,5 +1,4 @@
 -- `no_setups` repeats the blank setup. Assumes nothing.
-use borrow.Author.Rules.{rules}
 use Rattle.setups.proofs.no_setups.Goals as goal
 
 pub returns : goal.returns

@@ -1,6 +1,5 @@
 -- `remembered` keeps a grid beside its corners. Assumes nothing.
 use mathlib.Core.Path.{sym, ap, ◌∙◌}
-use borrow.Author.Rules.{rules}
 use Rattle.grids.specs.Grid.{meaning}
 use Rattle.setups.proofs.remembered.Goals as goal
 

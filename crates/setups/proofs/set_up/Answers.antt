@@ -1,5 +1,4 @@
 -- `set_up` takes what is known, or sets up. Assumes nothing.
-use borrow.Author.Rules.{rules}
 use Rattle.setups.proofs.Known.{taken_again}
 use Rattle.setups.proofs.set_up.Goals as goal
 

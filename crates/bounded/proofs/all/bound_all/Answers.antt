@@ -1,11 +1,9 @@
 -- `bound_all` goes from grid to grid, until they end or one is refused. Assumes nothing.
-use Prim.Native.Nat.{◌≤◌, ◌-◌}
 use native.Mathlib.Omega.{arith}
 use mathlib.Core.Path.{◌≡◌, sym, ◌∙◌}
-use lib.ListN.{length, take}
-use borrow.Author.Tests.{not-true, not-false}
+use lib.ListN.{length}
 use borrow.Author.Rules.{rules}
-use Rattle.bounded.proofs.Bounding.{AfterGrids, grids_begin, array_end, array_stop, array_next}
+use Rattle.bounded.proofs.Bounding.{grids_begin, array_end, array_stop, array_next}
 use Rattle.bounded.proofs.all.bound_all.Goals as goal
 
 pub loop-k-init : goal.loop-k-init

@@ -1,11 +1,7 @@
 -- `bound_all` goes from grid to grid, until they end or one is refused. Assumes nothing.
 use Prim.Native.Nat.{◌≤◌, ◌-◌}
-use native.Mathlib.Omega.{arith}
-use mathlib.Core.Path.{◌≡◌, sym, ◌∙◌}
-use lib.ListN.{length, take}
-use borrow.Author.Tests.{not-true, not-false}
-use borrow.Author.Rules.{rules}
-use Rattle.bounded.proofs.Bounding.{AfterGrids, grids_begin, array_end, array_stop, array_next}
+use lib.ListN.{take}
+use Rattle.bounded.proofs.Bounding.{AfterGrids}
 use Rattle.bounded.proofs.all.bound_all.Given as goal
 
 abbrev pub invariant-loop-k : goal.invariant-loop-k

@@ -1,7 +1,6 @@
 -- `bound_one` takes each case of the bounds. Assumes nothing.
 use native.Mathlib.Omega.{arith}
 use mathlib.Core.Path.{sym, ap, ◌∙◌}
-use borrow.Author.Rules.{rules}
 use Rattle.laid.specs.Laid.{added}
 use Rattle.bounds.specs.Bounds.{meaning}
 use Rattle.bounded.specs.All.{alone}

@@ -1,6 +1,5 @@
 -- `refused` holds a refusal, and blanks. Assumes nothing.
 use mathlib.Core.Path.{refl}
-use borrow.Author.Rules.{rules}
 use Rattle.laid.proofs.Standing.{laid_refused}
 use Rattle.groupings.specs.Held.{most_groups}
 use Rattle.bounded.specs.Held.{no_grid}

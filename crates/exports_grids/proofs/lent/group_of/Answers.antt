@@ -1,5 +1,4 @@
 -- `group_of` puts three stones together. Assumes nothing.
-use borrow.Author.Rules.{rules}
 use Rattle.exports_grids.specs.Lent.{group_of}
 use Rattle.exports_grids.proofs.lent.group_of.Goals as goal
 

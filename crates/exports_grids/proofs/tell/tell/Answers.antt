@@ -1,6 +1,5 @@
 -- `tell` writes a grid or that there is none, or tells a refusal's number. Assumes nothing.
 use mathlib.Core.Path.{refl}
-use borrow.Author.Rules.{rules}
 use Rattle.exports_grids.specs.Tells.{status_of, counts_after, floats_after}
 use Rattle.exports_grids.proofs.tell.tell.Goals as goal
 

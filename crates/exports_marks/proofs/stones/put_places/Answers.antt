@@ -1,5 +1,4 @@
 -- `put_places` writes a stone's five points, one behind the other. Assumes nothing.
-use borrow.Author.Rules.{rules}
 use Rattle.told_places.proofs.Places.{put_ten}
 use Rattle.exports_marks.proofs.stones.put_places.Goals as goal
 

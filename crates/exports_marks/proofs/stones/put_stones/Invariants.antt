@@ -1,13 +1,10 @@
 -- `put_stones` writes an array's stones one after the other. Assumes nothing.
 use Prim.Native.Nat.{ℕ, ◌-◌, ◌≤◌}
-use native.Mathlib.Omega.{arith}
-use mathlib.Core.Path.{◌≡◌, refl, sym, ◌∙◌}
+use mathlib.Core.Path.{◌≡◌}
 use lib.ListN.{length}
-use borrow.Author.Rules.{rules}
 use Rattle.told_places.specs.Put.{put_each}
 use Rattle.told_places.specs.Values.{floats_of}
 use Rattle.exports_marks.specs.Tells.{places_of, stone_at, all_places, all_floats}
-use Rattle.told_places.proofs.Places.{each_next, each_last}
 use Rattle.exports_marks.proofs.stones.put_stones.Given as goal
 
 abbrev pub invariant-loop-k : goal.invariant-loop-k

@@ -1,7 +1,7 @@
 -- `complete` finds the fourth corner, which changes no white, and then the grid. Assumes nothing.
 use native.Mathlib.Omega.{arith}
-use mathlib.Core.Path.{◌≡◌, sym, ◌∙◌}
-use lib.ListN.{length, length-map}
+use mathlib.Core.Path.{◌≡◌}
+use lib.ListN.{length}
 use borrow.Author.Rules.{rules}
 use Rattle.table.proofs.Exact.{sound_exact}
 use Rattle.table.proofs.Kept.{Proper}

@@ -1,5 +1,4 @@
 -- `from_group` knows nothing of a setup. Assumes nothing.
-use borrow.Author.Rules.{rules}
 use Rattle.setups.proofs.Known.{blank_remembers}
 use Rattle.fit.proofs.group.from_group.Goals as goal
 

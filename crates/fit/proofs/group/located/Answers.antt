@@ -1,5 +1,4 @@
 -- `located` sets the grid up where there is a fourth corner. Assumes nothing.
-use borrow.Author.Rules.{rules}
 use Rattle.fit.specs.Fit.{located_by}
 use Rattle.fit.proofs.group.located.Goals as goal
 

@@ -1,6 +1,5 @@
 -- `refit` goes by the outline. Assumes nothing.
 use mathlib.Core.Path.{refl, sym, ap, ◌∙◌}
-use borrow.Author.Rules.{rules}
 use Rattle.outline.specs.Outline as outline
 use Rattle.outline.proofs.Drawn.{outline_drawn}
 use Rattle.fit.specs.Fit.{not_outlined, apart, outlined}

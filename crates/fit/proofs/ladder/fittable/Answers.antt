@@ -1,7 +1,6 @@
 -- `fittable` goes on from `room`: what that refuses stands, else fit's own tests are made. Assumes nothing.
 use mathlib.Core.Path.{sym, ◌∙◌}
 use mathlib.Core.List.{List}
-use borrow.Author.Rules.{rules}
 use Rattle.refusals.specs.First.{Test, first, sound}
 use Rattle.refusals.proofs.First.{Clear, first_after}
 use Rattle.picture.specs.Sides.{room_tests}

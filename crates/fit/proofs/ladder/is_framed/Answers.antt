@@ -1,7 +1,5 @@
 -- `is_framed` asks for each corner. Assumes nothing.
 use mathlib.Core.Path.{sym, ◌∙◌}
-use borrow.Author.Rules.{rules}
-use borrow.Author.Tests.{not-true, not-false}
 use Rattle.fit.specs.Tests.{stone_inside}
 use Rattle.fit.proofs.ladder.is_framed.Goals as goal
 

@@ -1,7 +1,6 @@
 -- `is_inside` asks for each coordinate. Assumes nothing.
 use mathlib.Core.Path.{◌≡◌, sym, ◌∙◌}
 use borrow.Author.Rules.{rules}
-use borrow.Author.Tests.{not-true, not-false}
 use mir.Syntax.{w32}
 use mir.Val.{to_z, of_z}
 use Rattle.fit.specs.Tests.{on_picture}

@@ -1,7 +1,5 @@
 -- `is_taken` asks for the corners, then for the centre. Assumes nothing.
 use mathlib.Core.Path.{sym, ◌∙◌}
-use borrow.Author.Rules.{rules}
-use borrow.Author.Tests.{not-true, not-false}
 use Rattle.fit.specs.Tests.{stone_taken}
 use Rattle.fit.proofs.ladder.is_taken.Goals as goal
 

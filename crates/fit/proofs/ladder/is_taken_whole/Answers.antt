@@ -1,7 +1,5 @@
 -- `is_taken_whole` asks for each stone. Assumes nothing.
 use mathlib.Core.Path.{sym, ◌∙◌}
-use borrow.Author.Rules.{rules}
-use borrow.Author.Tests.{not-true, not-false}
 use Rattle.fit.specs.Tests.{group_taken}
 use Rattle.fit.proofs.ladder.is_taken_whole.Goals as goal
 

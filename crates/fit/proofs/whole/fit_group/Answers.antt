@@ -1,7 +1,6 @@
 -- `fit_group` tests, and then fits. Assumes nothing.
 use mathlib.Core.Path.{◌≡◌, refl, sym, ap, ◌∙◌}
 use lib.ListN.{length}
-use borrow.Author.Rules.{rules}
 use Rattle.refusals.specs.First.{first, sound}
 use Rattle.picture.specs.Verdict.{judged}
 use Rattle.fit.specs.Tests.{fit_tests}

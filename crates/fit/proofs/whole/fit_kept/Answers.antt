@@ -1,11 +1,9 @@
 -- `fit_kept` keeps the picture, and puts it back where the steps refuse. Assumes nothing.
 use native.Mathlib.Omega.{arith}
-use Prim.Native.Nat.{ℕ, ◌-◌}
+use Prim.Native.Nat.{ℕ}
 use mathlib.Core.Path.{◌≡◌, refl, sym, ap, ◌∙◌}
-use mathlib.Core.List.{List, ◌++◌}
-use lib.ListN.{length, take, drop, length-append}
-use lib.Seq.{take-length}
-use borrow.Author.Rules.{rules}
+use mathlib.Core.List.{List}
+use lib.ListN.{length, length-append}
 use Rattle.fit.specs.Fit.{put_back, stands}
 use Rattle.fit.proofs.Scratch.{kept_front, front_written}
 use Rattle.fit.proofs.whole.fit_kept.Goals as goal

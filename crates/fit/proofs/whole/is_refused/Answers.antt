@@ -1,5 +1,4 @@
 -- `is_refused` goes by the case. Assumes nothing.
-use borrow.Author.Rules.{rules}
 use Rattle.fit.specs.Fit.{is_refusal}
 use Rattle.fit.proofs.whole.is_refused.Goals as goal
 

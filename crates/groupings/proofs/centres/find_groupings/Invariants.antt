@@ -1,16 +1,9 @@
 -- `find_groupings` goes from centre to centre, until the stones end or one is refused. Assumes nothing.
-use Prim.Native.Nat.{ℕ, ◌≤◌, ◌-◌}
-use native.Mathlib.Omega.{arith}
-use mathlib.Core.Path.{◌≡◌, refl, sym, ◌∙◌, subst}
+use Prim.Native.Nat.{◌≤◌, ◌-◌}
+use mathlib.Core.Path.{◌≡◌}
 use lib.ListN.{length, take}
-use lib.Seq.{length-take-le}
-use borrow.Author.Tests.{not-true, not-false}
-use borrow.Author.Rules.{rules}
 use Rattle.setups.specs.Remember.{AllRemember}
-use Rattle.setups.proofs.Known.{blanks_remember}
-use Rattle.groupings.specs.Held.{groups_of, Counted}
-use Rattle.groupings.proofs.Copy.{still_workable}
-use Rattle.groupings.proofs.Going.{AfterCentres, centres_begin, centres_end, centres_stop, centres_next}
+use Rattle.groupings.proofs.Going.{AfterCentres}
 use Rattle.groupings.proofs.centres.find_groupings.Given as goal
 
 abbrev pub invariant-loop-idx : goal.invariant-loop-idx

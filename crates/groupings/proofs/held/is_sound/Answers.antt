@@ -1,5 +1,4 @@
 -- `is_sound` tells the two verdicts apart. Assumes nothing.
-use borrow.Author.Rules.{rules}
 use Rattle.laid.specs.Laid.{goes}
 use Rattle.groupings.proofs.held.is_sound.Goals as goal
 

@@ -1,10 +1,7 @@
 -- `is_used` goes from group to group. Assumes nothing.
-use Prim.Native.Nat.{◌≤◌, ◌-◌}
 use native.Mathlib.Omega.{arith}
 use mathlib.Core.Path.{◌≡◌, refl, sym, ◌∙◌}
-use lib.ListN.{length, take, drop, length-map}
-use borrow.Author.Rules.{rules}
-use Rattle.groupings.specs.Used.{is_used}
+use lib.ListN.{length}
 use Rattle.groupings.proofs.Uses.{used_hit, used_miss, used_none}
 use Rattle.groupings.proofs.held.is_used.Goals as goal
 

@@ -1,11 +1,8 @@
 -- `is_used` goes from group to group. Assumes nothing.
 use Prim.Native.Nat.{◌≤◌, ◌-◌}
-use native.Mathlib.Omega.{arith}
-use mathlib.Core.Path.{◌≡◌, refl, sym, ◌∙◌}
-use lib.ListN.{length, take, drop, length-map}
-use borrow.Author.Rules.{rules}
+use mathlib.Core.Path.{◌≡◌}
+use lib.ListN.{take, drop}
 use Rattle.groupings.specs.Used.{is_used}
-use Rattle.groupings.proofs.Uses.{used_hit, used_miss, used_none}
 use Rattle.groupings.proofs.held.is_used.Given as goal
 
 abbrev pub invariant-loop-k : goal.invariant-loop-k

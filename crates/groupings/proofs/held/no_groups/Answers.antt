@@ -2,7 +2,6 @@
 use mathlib.Core.Path.{refl}
 use mathlib.Core.List.{[]}
 use lib.Dec.{lit≤}
-use borrow.Author.Rules.{rules}
 use Rattle.laid.specs.Laid.{laid_out}
 use Rattle.laid.proofs.Standing.{laid_found}
 use Rattle.groupings.specs.Held.{most_groups, no_trio}

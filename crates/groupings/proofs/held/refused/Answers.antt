@@ -1,6 +1,5 @@
 -- `refused` holds a refusal, and blank groups. Assumes nothing.
 use mathlib.Core.Path.{refl}
-use borrow.Author.Rules.{rules}
 use Rattle.laid.proofs.Standing.{laid_refused}
 use Rattle.groupings.specs.Held.{most_groups, no_trio}
 use Rattle.groupings.proofs.held.refused.Goals as goal

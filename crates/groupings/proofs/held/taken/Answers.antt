@@ -1,5 +1,4 @@
 -- `taken` takes each case of a trial. Assumes nothing.
-use borrow.Author.Rules.{rules}
 use Rattle.setups.proofs.Known.{blanks_remember, one_remembered}
 use Rattle.groupings.specs.Groups.{after_trial}
 use Rattle.groupings.proofs.held.taken.Goals as goal

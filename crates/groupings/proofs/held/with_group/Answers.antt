@@ -1,6 +1,5 @@
 -- `with_group` puts a group behind the others. Assumes nothing.
 use mathlib.Core.Path.{refl}
-use borrow.Author.Rules.{rules}
 use Rattle.laid.proofs.Standing.{with_one}
 use Rattle.groupings.specs.Held.{most_groups, no_trio}
 use Rattle.groupings.proofs.held.with_group.Goals as goal

@@ -1,6 +1,5 @@
 -- `group_of` takes the three stones out. Assumes nothing.
 use mathlib.Core.Path.{refl}
-use borrow.Author.Rules.{rules}
 use Rattle.groupings.proofs.pairs.group_of.Goals as goal
 
 pub returns : goal.returns

@@ -1,6 +1,5 @@
 -- `try_pair` passes over a pair with a used stone, and puts any other on trial. Assumes nothing.
 use mathlib.Core.Path.{sym, ◌∙◌, subst}
-use borrow.Author.Rules.{rules}
 use Rattle.groups.specs.Group.{Centred, Cornered}
 use Rattle.groups.specs.declared.CapStoneGroup.{CapStoneGroup}
 use Rattle.groupings.specs.Groups.{passed_over, on_trial}

@@ -1,14 +1,10 @@
 -- `try_pairs` goes from pair to pair, also after a group is found, until the pairs end or one is refused. Assumes nothing.
 use Prim.Native.Nat.{◌≤◌, ◌-◌}
-use native.Mathlib.Omega.{arith}
-use mathlib.Core.Path.{◌≡◌, refl, sym, ◌∙◌}
+use mathlib.Core.Path.{◌≡◌}
 use lib.ListN.{length, take}
-use borrow.Author.Tests.{not-true, not-false}
-use borrow.Author.Rules.{rules}
 use Rattle.setups.specs.Remember.{AllRemember}
 use Rattle.groupings.specs.Held.{groups_of}
-use Rattle.groupings.proofs.Copy.{still_workable}
-use Rattle.groupings.proofs.Going.{AfterPairs, pairs_begin, array_end, array_stop, array_next}
+use Rattle.groupings.proofs.Going.{AfterPairs}
 use Rattle.groupings.proofs.pairs.try_pairs.Given as goal
 
 abbrev pub invariant-loop-k : goal.invariant-loop-k

@@ -1,9 +1,9 @@
 -- `trial` fits on the copy in the scratch. Assumes nothing.
 use native.Mathlib.Omega.{arith}
 use Prim.Native.Nat.{ℕ}
-use mathlib.Core.Path.{◌≡◌, sym, ◌∙◌, subst}
+use mathlib.Core.Path.{◌≡◌, subst}
 use mathlib.Core.List.{List}
-use lib.ListN.{length, length-map}
+use lib.ListN.{length}
 use borrow.Author.Rules.{rules}
 use Rattle.setups.specs.Remember.{Remembers}
 use Rattle.setups.proofs.Known.{blank_remembers}

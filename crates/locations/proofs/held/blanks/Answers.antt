@@ -1,5 +1,4 @@
 -- `blanks` takes the blank stone's perspective. Assumes nothing.
-use borrow.Author.Rules.{rules}
 use Rattle.locations.proofs.held.blanks.Goals as goal
 
 pub returns : goal.returns

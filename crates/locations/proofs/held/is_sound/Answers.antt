@@ -1,5 +1,4 @@
 -- `is_sound` goes by the verdict. Assumes nothing.
-use borrow.Author.Rules.{rules}
 use Rattle.laid.specs.Laid.{goes}
 use Rattle.locations.proofs.held.is_sound.Goals as goal
 

@@ -1,6 +1,5 @@
 -- `taken` takes each case of a fit. Assumes nothing.
 use native.Mathlib.Omega.{arith}
-use borrow.Author.Rules.{rules}
 use Rattle.laid.specs.Laid.{added}
 use Rattle.locations.proofs.held.taken.Goals as goal
 

@@ -1,6 +1,5 @@
 -- `with_grid` puts a grid behind the others. Assumes nothing.
 use mathlib.Core.Path.{refl}
-use borrow.Author.Rules.{rules}
 use Rattle.laid.proofs.Standing.{with_one}
 use Rattle.groupings.specs.Held.{most_groups}
 use Rattle.locations.specs.Held.{no_location}

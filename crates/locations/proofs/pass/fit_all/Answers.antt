@@ -1,15 +1,13 @@
 -- `fit_all` goes from group to group, until they end or one is refused. Assumes nothing.
-use Prim.Native.Nat.{◌≤◌, ◌-◌}
 use native.Mathlib.Nat.{le_refl}
 use native.Mathlib.Omega.{arith}
 use mathlib.Core.Path.{◌≡◌, refl, sym, ◌∙◌}
-use lib.ListN.{length, length-map, take}
-use borrow.Author.Tests.{not-true, not-false}
+use lib.ListN.{length}
 use borrow.Author.Rules.{rules}
 use Rattle.table.proofs.Exact.{sound_exact}
 use Rattle.table.proofs.Kept.{Proper}
 use Rattle.setups.proofs.Known.{remembers_after}
-use Rattle.locations.proofs.Passing.{AfterGroups, groups_begin, array_end, array_stop, array_next, next_workable}
+use Rattle.locations.proofs.Passing.{groups_begin, array_end, array_stop, array_next, next_workable}
 use Rattle.locations.proofs.pass.fit_all.Goals as goal
 
 pub loop-k-init : goal.loop-k-init

@@ -1,15 +1,8 @@
 -- `fit_all` goes from group to group, until they end or one is refused. Assumes nothing.
 use Prim.Native.Nat.{◌≤◌, ◌-◌}
-use native.Mathlib.Nat.{le_refl}
-use native.Mathlib.Omega.{arith}
-use mathlib.Core.Path.{◌≡◌, refl, sym, ◌∙◌}
-use lib.ListN.{length, length-map, take}
-use borrow.Author.Tests.{not-true, not-false}
-use borrow.Author.Rules.{rules}
-use Rattle.table.proofs.Exact.{sound_exact}
-use Rattle.table.proofs.Kept.{Proper}
-use Rattle.setups.proofs.Known.{remembers_after}
-use Rattle.locations.proofs.Passing.{AfterGroups, groups_begin, array_end, array_stop, array_next, next_workable}
+use mathlib.Core.Path.{◌≡◌}
+use lib.ListN.{length, take}
+use Rattle.locations.proofs.Passing.{AfterGroups}
 use Rattle.locations.proofs.pass.fit_all.Given as goal
 
 abbrev pub invariant-loop-k : goal.invariant-loop-k

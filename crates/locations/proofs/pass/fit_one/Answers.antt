@@ -1,6 +1,5 @@
 -- `fit_one` fits the group that a trio names, and takes what it comes to. Assumes nothing.
 use mathlib.Core.Path.{sym, subst}
-use borrow.Author.Rules.{rules}
 use Rattle.groups.specs.Group.{Centred, Cornered}
 use Rattle.groups.specs.declared.CapStoneGroup.{CapStoneGroup}
 use Rattle.locations.proofs.Passing.{takes}

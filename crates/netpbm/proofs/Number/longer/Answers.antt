@@ -1,6 +1,5 @@
 -- `longer` fits: a number that can take a digit is below 10,000. Assumes nothing.
 use native.Mathlib.Omega.{arith}
-use borrow.Author.Rules.{rules}
 use Rattle.netpbm.proofs.Numbers.{digit_range, takes_told, few_decades}
 use Rattle.netpbm.proofs.Number.longer.Goals as goal
 

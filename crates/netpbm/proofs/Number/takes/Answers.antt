@@ -1,6 +1,5 @@
 -- `takes` counts the digits, then looks at the byte. Assumes nothing.
 use borrow.Author.Tests.{lt-ltb, le-ltb}
-use borrow.Author.Rules.{rules}
 use Rattle.netpbm.specs.Machine.{takes}
 use Rattle.netpbm.proofs.Number.takes.Goals as goal
 

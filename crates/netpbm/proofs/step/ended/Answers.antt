@@ -1,7 +1,6 @@
 -- `ended` counts the pixels. Assumes nothing.
 use borrow.Author.Tests.{eq-eqb, ne_eqb}
 use Rattle.netpbm.specs.Machine.{ended_at}
-use borrow.Author.Rules.{rules}
 use Rattle.netpbm.proofs.step.ended.Goals as goal
 
 pub returns-then-body : goal.returns-then-body

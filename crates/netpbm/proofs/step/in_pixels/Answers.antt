@@ -1,7 +1,6 @@
 -- `in_pixels` takes a pixel or breaks. Assumes nothing.
 use mathlib.Core.Path.{sym, ◌∙◌}
 use Rattle.netpbm.specs.Machine.{in_pixels}
-use borrow.Author.Rules.{rules}
 use Rattle.netpbm.proofs.step.in_pixels.Goals as goal
 
 pub returns-then-takes_pixel : goal.returns-then-takes_pixel

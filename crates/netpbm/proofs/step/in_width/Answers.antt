@@ -1,7 +1,6 @@
 -- `in_width` takes a digit or breaks. Assumes nothing.
 use mathlib.Core.Path.{sym, ◌∙◌}
 use Rattle.netpbm.specs.Machine.{in_width}
-use borrow.Author.Rules.{rules}
 use Rattle.netpbm.proofs.step.in_width.Goals as goal
 
 pub longer-requires : goal.longer-requires

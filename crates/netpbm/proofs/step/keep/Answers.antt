@@ -2,7 +2,6 @@
 use mathlib.Core.Path.{sym, subst}
 use Rattle.netpbm.specs.Machine.{kept, Bounded}
 use Rattle.netpbm.proofs.Steps.{other_keeps}
-use borrow.Author.Rules.{rules}
 use Rattle.netpbm.proofs.step.keep.Goals as goal
 
 pub keep_in-requires : goal.keep_in-requires

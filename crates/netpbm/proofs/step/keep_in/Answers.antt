@@ -1,10 +1,8 @@
 -- `keep_in` writes to the place of the next pixel, which is there. Assumes nothing.
 use mathlib.Core.Path.{sym, ◌∙◌}
 use native.Mathlib.Omega.{arith}
-use borrow.Author.Tests.{not-true, not-false}
 use Rattle.netpbm.specs.Machine.{kept_in}
 use Rattle.netpbm.proofs.Numbers.{bit_range, takes_pixel_told}
-use borrow.Author.Rules.{rules}
 use Rattle.netpbm.proofs.step.keep_in.Goals as goal
 
 pub returns-then-not-takes_pixel : goal.returns-then-not-takes_pixel

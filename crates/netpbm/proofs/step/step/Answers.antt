@@ -2,7 +2,6 @@
 use mathlib.Core.Path.{sym, ◌∙◌, subst}
 use Rattle.netpbm.specs.Machine.{stepped, Bounded}
 use Rattle.netpbm.proofs.Numbers.{none_below, below_most}
-use borrow.Author.Rules.{rules}
 use Rattle.netpbm.proofs.step.step.Goals as goal
 
 pub in_width-requires : goal.in_width-requires

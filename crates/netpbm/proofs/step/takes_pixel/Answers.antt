@@ -1,7 +1,6 @@
 -- `takes_pixel` counts the pixels, then looks at the byte. Assumes nothing.
 use borrow.Author.Tests.{lt-ltb, le-ltb}
 use Rattle.netpbm.specs.Machine.{takes_pixel}
-use borrow.Author.Rules.{rules}
 use Rattle.netpbm.proofs.step.takes_pixel.Goals as goal
 
 pub returns-then-body : goal.returns-then-body

@@ -1,5 +1,4 @@
 -- `adjusted` goes by whether the trial's number is even. Assumes nothing.
-use borrow.Author.Rules.{rules}
 use borrow.Author.Tests.{eq-eqb, ne_eqb}
 use Rattle.refine.specs.Adjust.{adjusted}
 use Rattle.refine.proofs.adjust.adjusted.Goals as goal

@@ -1,5 +1,4 @@
 -- `judged` keeps the better of two, and refuses where the other is refused. Assumes nothing.
-use borrow.Author.Rules.{rules}
 use Rattle.refine.specs.Refine.{judged}
 use Rattle.refine.proofs.trial.judged.Goals as goal
 

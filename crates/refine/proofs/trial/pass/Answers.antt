@@ -1,11 +1,8 @@
 -- `pass` makes one trial after the other. Assumes nothing.
-use Prim.Native.Nat.{◌-◌, ◌≤◌}
 use native.Mathlib.Numerals.{add-one}
 use native.Mathlib.Omega.{arith}
 use mathlib.Core.Path.{◌≡◌, refl}
-use Rattle.fitness.specs.Fitness.{fitness_of}
-use Rattle.refine.specs.Refine.{meaning, trial, trials}
-use borrow.Author.Rules.{rules}
+use Rattle.refine.specs.Refine.{trials}
 use Rattle.refine.proofs.trial.pass.Goals as goal
 
 pub loop-i-init : goal.loop-i-init

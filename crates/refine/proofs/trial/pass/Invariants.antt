@@ -1,11 +1,8 @@
 -- `pass` makes one trial after the other. Assumes nothing.
 use Prim.Native.Nat.{◌-◌, ◌≤◌}
-use native.Mathlib.Numerals.{add-one}
-use native.Mathlib.Omega.{arith}
-use mathlib.Core.Path.{◌≡◌, refl}
+use mathlib.Core.Path.{◌≡◌}
 use Rattle.fitness.specs.Fitness.{fitness_of}
-use Rattle.refine.specs.Refine.{meaning, trial, trials}
-use borrow.Author.Rules.{rules}
+use Rattle.refine.specs.Refine.{meaning, trials}
 use Rattle.refine.proofs.trial.pass.Given as goal
 
 abbrev pub invariant-loop-i : goal.invariant-loop-i

@@ -1,5 +1,4 @@
 -- `trial` goes on from the best so far, and stays refused. Assumes nothing.
-use borrow.Author.Rules.{rules}
 use Rattle.refine.specs.Refine.{trial}
 use Rattle.refine.proofs.trial.trial.Goals as goal
 
