@@ -20,3 +20,9 @@ pub front_copied : (p s : List ℕ) → length p ≤ length s
 front_copied p s enough =
     let same : length p - 0 ≡ length p = omega arith in
     rw same (over p (take (length p) s) (length-take-le (length p) s enough))
+
+-- a picture written over the front of s
+pub front_written : (p s l : List ℕ) → l ≡ p → l ++ drop (length p - 0) s ≡ take (length p) p ++ drop (length p) s
+front_written p s l e =
+    let whole : length p - 0 ≡ length p = omega arith in
+    rw (e, whole, take-length p)

@@ -119,7 +119,7 @@ tries_found {lent = lent} {n = n} C (ring m X K) k g s i =
     let R = tests_ringed C {room = lent} (omega arith) X in
     stone_found K.corners (rings_cornered R K.rings) n k (sym K.is ∙ g) s i
 
-search_found : {places : List Place} {p : List ℕ} {w h lent : ℕ} {T : Table} {l : List CapStone} {f : Finding (List CapStone)} {q : List ℕ} {U : Table}
+search_found : {w h lent : ℕ} {places : List Place} {p : List ℕ} {T : Table} {l : List CapStone} {f : Finding (List CapStone)} {q : List ℕ} {U : Table}
     → InWork p w h lent T → ((at : Place) → Mem at places → Stands p w h at) → ((s : CapStone) → Mem s l → FoundIn w h s) → Searches w h places p T l f q U
     → (k : List CapStone) → f ≡ found k → (s : CapStone) → Mem s k → FoundIn w h s
 search_found {l = l} W each before finished k e s m = before s (subst (Mem s) (same_list l k e) m)

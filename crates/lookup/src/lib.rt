@@ -52,7 +52,8 @@ pub fn look_up(
     let written = newest(looked.table);
     let k = written.number;
     table.entries[k] = written.entry;
-    table.age = looked.table.age;
+    let age = looked.table.age;
+    table.age = age;
     table.n = looked.table.n;
     looked.found
 }

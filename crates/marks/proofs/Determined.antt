@@ -82,7 +82,7 @@ module _ {p : List ℕ} {w h lent : ℕ} {T : Table} {y : ℕ} {cut : LinePositi
 same_stones : (k l : List CapStone) → found k ≡ found l → k ≡ l
 same_stones k l e = cc
 
-search_same : {places : List Place} {p : List ℕ} {w h lent : ℕ} {T : Table} {l : List CapStone} {f g : Finding (List CapStone)} {q r : List ℕ} {U Z : Table}
+search_same : {w h lent : ℕ} {places : List Place} {p : List ℕ} {T : Table} {l : List CapStone} {f g : Finding (List CapStone)} {q r : List ℕ} {U Z : Table}
     → InWork p w h lent T → ((at : Place) → Mem at places → Stands p w h at) → Searches w h places p T l f q U → Searches w h places p T l g r Z → Alike f q U g r Z
 search_same W each finished finished = (refl, refl, refl)
 search_same {w = w} {h = h} {lent = lent} {l = l} {g = g} {r = r} {Z = Z} W each (tried {at = at} {more = more} {new = new} {m = m} {Between = B} X S) (tried {new = other} {m = k} {Between = D} Y R) =

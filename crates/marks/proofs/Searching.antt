@@ -134,7 +134,7 @@ pub record Stands (p : List ℕ) (w h : ℕ) (at : Place) : Type 0 where
   pub columns : OnDark p (at.line * w) w at.cut
 
 -- a search of cuts of the picture keeps it in work
-pub search_goes : {places : List Place} {p : List ℕ} {w h lent : ℕ} {T : Table} {l : List CapStone} {f : Finding (List CapStone)} {q : List ℕ} {U : Table} {room : ℕ}
+pub search_goes : {w h lent : ℕ} {places : List Place} {p : List ℕ} {T : Table} {l : List CapStone} {f : Finding (List CapStone)} {q : List ℕ} {U : Table} {room : ℕ}
     → InWork p w h lent T → lent ≤ room → ((at : Place) → Mem at places → Stands p w h at) → Searches w h places p T l f q U → Goes p w h q room U
 search_goes W more each finished = goes_still W more
 search_goes {w = w} {h = h} {lent = lent} W more each (tried {at = at} X S) =

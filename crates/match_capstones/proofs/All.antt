@@ -54,7 +54,7 @@ module _ {A : Type 0} (S : A → A → Type 0) where
   pairwise_only true x = (all_none, tt)
   pairwise_only false x = tt
 
-  across_append : {a b c : List A} → Across S a b → Across S a c → Across S a (b ++ c)
+  across_append : {b c a : List A} → Across S a b → Across S a c → Across S a (b ++ c)
   across_append all_none all_none = all_none
   across_append (all_one p ps) (all_one q qs) = all_one (all_append p q) (across_append ps qs)
 

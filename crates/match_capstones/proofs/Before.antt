@@ -4,7 +4,7 @@ use Prim.Native.Nat.{ℕ, zero, suc, ◌+◌, ◌*◌, ◌≤◌, ◌<◌}
 use native.Mathlib.Nat.{mul-pos, zero-lt-suc}
 use native.Mathlib.Omega.{arith}
 use mathlib.Core.Path.{◌≡◌, refl, sym, ap, ◌∙◌}
-use mathlib.Core.Bool.{Bool, true, false, or_false, true≢false, false≢true}
+use mathlib.Core.Bool.{Bool, true, false, or-false, true≢false, false≢true}
 use borrow.Author.Tests.{ltb-true, ltb-false, le-ltb}
 use lib.IntN.{ℤ}
 use lib.Ieee.{Float, nan, inf, fin, up, down, below, lt, is_nan}
@@ -55,7 +55,7 @@ module _ (x y z p q r : ℕ) (P : 0 < p) (Q : 0 < q) (R : 0 < r) where
 -- ---- two finite floats rank as their comparison says
 pub finite : (s : Bool) (m : ℕ) (e : ℤ) (t : Bool) (n : ℕ) (d : ℤ) → ranks_before (fin s m e) (fin t n d) ≡ below s (m * up e * down d) t (n * up d * down e)
 unfolding ranks_before lt is_nan
-finite s m e t n d = or_false (below s (m * up e * down d) t (n * up d * down e))
+finite s m e t n d = or-false (below s (m * up e * down d) t (n * up d * down e))
 
 pub once_before : (a b : Float) → ranks_before a b ≡ true → ranks_before b a ≡ false
 unfolding ranks_before lt is_nan

@@ -3,7 +3,6 @@ use mathlib.Core.Path.{refl, ap, ◌∙◌}
 use mathlib.Core.List.{List}
 use mathlib.Core.Logic.{inl, inr}
 use Prim.Native.Nat.{ℕ}
-use borrow.Author.Rules.{rules}
 use Rattle.exports_ranking.specs.Ranks.{count_put, short, told}
 use Rattle.exports_ranking.proofs.elmetzhur_rank.Goals as goal
 

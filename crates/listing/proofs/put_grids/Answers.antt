@@ -1,25 +1,18 @@
 -- `put_grids` puts line after line. Assumes nothing.
-use Prim.Native.Nat.{◌-◌, ◌*◌, ◌≤◌}
-use native.Mathlib.Omega.{arith}
-use mathlib.Core.Path.{◌≡◌, refl}
-use lib.ListN.{length, take}
-use borrow.Author.Rules.{rules}
-use Rattle.report.specs.Puts.{Puts}
-use Rattle.listing.specs.Listing.{grid_lines}
+use Rattle.std.proofs.Common.{◌≡◌, length, refl, arith, rules}
 use Rattle.listing.proofs.Lines.{no_lines, lines_next}
 use Rattle.listing.proofs.put_grids.Goals as goal
 
 pub loop-k-init : goal.loop-k-init
-loop-k-init c = (no_lines, omega arith, refl)
+loop-k-init c = (no_lines, refl)
 
 pub put_grid-next-requires : goal.put_grid-next-requires
-put_grid-next-requires c =
-    omega (arith, c.loop-k.invariant.0.short, c.loop-k.invariant.2, c.loop-k-test.true, c.requires.1)
+put_grid-next-requires c = omega (arith, c.loop-k.invariant.0.short, c.requires.1)
 
 pub loop-k-preserved : goal.loop-k-preserved
 loop-k-preserved c =
-    let long : length c.args.t ≡ 31 = search rules in
-    (lines_next c.args.t c.loop-k.k _ (omega (arith, c.loop-k-test.true, long, c.requires.0)) c.loop-k.invariant.0 (rw c.line_of.ensures at c.put_grid-next.ensures), omega arith, omega (arith, c.loop-k.invariant.2, c.put_grid-next.auto.out))
+    let long : length c.args.grids ≡ 31 = search rules in
+    (lines_next c.args.grids c.loop-k.k _ (omega (arith, long, c.requires.0)) c.loop-k.invariant.0 (rw c.line_of.ensures at c.put_grid-next.ensures), omega arith)
 
 pub returns : goal.returns
 returns c =

@@ -1,7 +1,6 @@
 -- `newest` answers the entry at the front of the age order. Assumes nothing.
 use mathlib.Core.Path.{refl}
 use native.Mathlib.Omega.{arith}
-use borrow.Author.Rules.{rules}
 use borrow.Author.Tests.{lt-ltb, le-ltb}
 use Rattle.lookup.specs.Newest.{newest_of}
 use Rattle.lookup.proofs.newest.Goals as goal

@@ -1,5 +1,4 @@
 -- `room` is 64 blank stones. Assumes nothing.
-use borrow.Author.Rules.{rules}
 use Rattle.neighbors.proofs.room.Goals as goal
 
 pub returns : goal.returns

@@ -1,7 +1,6 @@
 -- `put_counts` puts one line after the other. Assumes nothing.
 use Rattle.report.specs.Lines.{count_lines}
 use Rattle.report.proofs.Putting.{puts_then}
-use borrow.Author.Rules.{rules}
 use Rattle.report.proofs.put_counts.Goals as goal
 
 pub returns : goal.returns

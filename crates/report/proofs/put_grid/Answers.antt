@@ -3,7 +3,6 @@ use native.Mathlib.Omega.{arith}
 use Rattle.report.specs.Lines.{grid_line}
 use Rattle.report.proofs.Putting.{puts_then, puts_within}
 use Rattle.report.proofs.Decimals.{byte_short}
-use borrow.Author.Rules.{rules}
 use Rattle.report.proofs.put_grid.Goals as goal
 
 pub decimal-a0-requires : goal.decimal-a0-requires

@@ -1,6 +1,5 @@
 -- `put_refused` puts the word and the number. Assumes nothing.
 use Rattle.report.specs.Lines.{refused_line}
-use borrow.Author.Rules.{rules}
 use Rattle.report.proofs.put_refused.Goals as goal
 
 pub returns : goal.returns

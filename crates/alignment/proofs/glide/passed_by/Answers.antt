@@ -15,9 +15,9 @@ returns-then-table-eq0 c = rw (eq-eqb _ _ c.if-table-eq0.true)
 
 pub offset_bounds-table-number : goal.offset_bounds-table-number
 offset_bounds-table-number c =
-    let number_few : newest_of c.args.t < 251 =
-    let age : length c.args.t.age ≡ 251 = search rules in
-    let none : c.args.t.n ≡ 0 → ⊥ = c.if-table-eq0.false in
+    let number_few : newest_of c.args.table < 251 =
+    let age : length c.args.table.age ≡ 251 = search rules in
+    let none : c.args.table.n ≡ 0 → ⊥ = c.if-table-eq0.false in
     let low = newest_below (omega arith) c.requires.0 (omega arith) in
     omega (arith, c.requires.0.few)
     in
@@ -25,9 +25,9 @@ offset_bounds-table-number c =
 
 pub bounds-table-number : goal.bounds-table-number
 bounds-table-number c =
-    let number_few : newest_of c.args.t < 251 =
-    let age : length c.args.t.age ≡ 251 = search rules in
-    let none : c.args.t.n ≡ 0 → ⊥ = c.if-table-eq0.false in
+    let number_few : newest_of c.args.table < 251 =
+    let age : length c.args.table.age ≡ 251 = search rules in
+    let none : c.args.table.n ≡ 0 → ⊥ = c.if-table-eq0.false in
     let low = newest_below (omega arith) c.requires.0 (omega arith) in
     omega (arith, c.requires.0.few)
     in
@@ -39,9 +39,9 @@ returns-then-is_size_like c = rw (ne_eqb _ _ c.if-table-eq0.false, sym c.is_size
 
 pub overflow_add-result : goal.overflow_add-result
 overflow_add-result c =
-    let number_few : newest_of c.args.t < 251 =
-    let age : length c.args.t.age ≡ 251 = search rules in
-    let none : c.args.t.n ≡ 0 → ⊥ = c.if-table-eq0.false in
+    let number_few : newest_of c.args.table < 251 =
+    let age : length c.args.table.age ≡ 251 = search rules in
+    let none : c.args.table.n ≡ 0 → ⊥ = c.if-table-eq0.false in
     let low = newest_below (omega arith) c.requires.0 (omega arith) in
     omega (arith, c.requires.0.few)
     in

@@ -11,7 +11,6 @@ use Rattle.alignment.specs.Glide.{passed_of, Glides}
 use Rattle.alignment.proofs.Passes.{first_turning, first_near}
 use Rattle.alignment.proofs.Gliding.{glide_spirals, glide_reaches}
 use Rattle.alignment.proofs.search.find_alignment_pattern.Goals as goal
-use Rattle.alignment.proofs.search.find_alignment_pattern.Tie as tie
 
 pub passed_by-passed-requires : goal.passed_by-passed-requires
 passed_by-passed-requires c =
@@ -23,20 +22,19 @@ pub glide-start-requires : goal.glide-start-requires
 glide-start-requires c =
     (c.requires.0.sized, rw c.first_pass.ensures first_turning, rw c.first_pass.ensures (first_near c.requires.2), c.requires.3)
 
--- the glide is the seed's, and passes by what the table says
-glided :
-    (c : tie.After-glide) → let s = c.before.before.before.before.before.before in
-    Glides s.args.pic.now s.args.width s.args.height s.args.estimate (passed_of s.args.estimate s.args.table) first_pass s.args.seed c.glide.result.pass
-    c.glide.result.at
-glided c = rw (c.before.first-pass.ensures, c.before.before.before.passed-by.ensures) at c.glide.ensures
-
 pub search_from-requires : goal.search_from-requires
 search_from-requires c =
-    let r = glide_reaches c.requires.3 first_turning (first_near c.requires.2) (glided c.before.before.before.before) in
+    let glided : Glides c.args.pic.now c.args.width c.args.height c.args.estimate (passed_of c.args.estimate c.args.table) first_pass c.args.seed c.glide-start.result.pass c.glide-start.result.at =
+    rw (c.first_pass.ensures, c.passed_by-passed.ensures) at c.glide-start.ensures
+    in
+    let r = glide_reaches c.requires.3 first_turning (first_near c.requires.2) glided in
     (c.requires.0, c.requires.1, r.turning, r.near, c.requires.3)
 
 pub returns : goal.returns
 returns c =
+    let glided : Glides c.args.pic.now c.args.width c.args.height c.args.estimate (passed_of c.args.estimate c.args.table) first_pass c.args.seed c.glide-start.result.pass c.glide-start.result.at =
+    rw (c.first_pass.ensures, c.passed_by-passed.ensures) at c.glide-start.ensures
+    in
     let age_whole : 251 ≤ length c.args.table.age = let age : length c.args.table.age ≡ 251 = search rules in omega arith in
     let ordered : Ordered c.args.table = test_ordered c.args.table _ _ c.requires.1 age_whole in
-    glide_spirals (age_whole) (ordered) (glided c.before.before.before.before.before.before.before.before.before) c.search_from.ensures
+    glide_spirals (age_whole) (ordered) glided c.search_from.ensures

@@ -15,7 +15,7 @@ use Rattle.alignment.proofs.search.search_from.Goals as goal
 
 pub loop-pass-init : goal.loop-pass-init
 loop-pass-init c =
-    let entries : length c.args.table.entries ≡ 251 = sym (length-map c.args.table.entries _) ∙ c.well_formed.1.1.1.1.0.1.1.0.1.0.1 in
+    let entries : length c.args.table.entries ≡ 251 = c.well_formed.1.1.1.1.0.1.1.0.1.0.1 in
     let age : length c.args.table.age ≡ 251 = search rules in
     let sound = (sound_exact c.args.table _ _ (omega arith)).0 c.requires.1 in
     (along_begun c.requires.4 c.requires.0 (record { entries = entries; age = age; sound = sound }) c.requires.2 c.requires.3, refl, refl)

@@ -53,3 +53,7 @@ pub returns : goal.returns
 returns c =
     let b : to_z w32 (of_z w32 c.args.best) ≡ c.args.best = search rules in
     rw b at c.past_marks.ensures
+
+pub outdone-requires-clause-fact_1 : goal.outdone-requires-clause-fact_1
+unfolding extent
+outdone-requires-clause-fact_1 c = search rules

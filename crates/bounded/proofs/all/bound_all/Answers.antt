@@ -17,17 +17,17 @@ bound_one-sofar-requires c =
 
 pub returns-then-not-is_sound : goal.returns-then-not-is_sound
 returns-then-not-is_sound c =
-    let long : length c.args.t ≡ 31 = search rules in
+    let long : length c.args.locations ≡ 31 = search rules in
     let stops = sym c.is_sound.ensures ∙ c.if-not-is_sound.true in
-    (array_stop c.args.t c.args.n (omega (arith, long, c.requires)) c.loop-k.invariant.0 c.loop-k-test.true c.bound_one-sofar.ensures stops, c.bound_one-sofar.ensures.laid)
+    (array_stop c.args.locations c.args.n (omega (arith, long, c.requires)) c.loop-k.invariant.0 c.loop-k-test.true c.bound_one-sofar.ensures stops, c.bound_one-sofar.ensures.laid)
 
 pub loop-k-preserved : goal.loop-k-preserved
 loop-k-preserved c =
-    let long : length c.args.t ≡ 31 = search rules in
+    let long : length c.args.locations ≡ 31 = search rules in
     let goes = sym c.is_sound.ensures ∙ c.if-not-is_sound.false in
-    (array_next c.args.t c.args.n (omega (arith, long, c.requires)) c.loop-k.invariant.0 c.loop-k-test.true c.bound_one-sofar.ensures goes, omega arith)
+    (array_next c.args.locations c.args.n (omega (arith, long, c.requires)) c.loop-k.invariant.0 c.loop-k-test.true c.bound_one-sofar.ensures goes, omega arith)
 
 pub returns : goal.returns
 returns c =
-    let long : length c.args.t ≡ 31 = search rules in
-    (array_end c.args.t c.args.n (omega (arith, long, c.requires)) c.loop-k.invariant.0 (omega arith), c.loop-k.invariant.0.held.laid)
+    let long : length c.args.locations ≡ 31 = search rules in
+    (array_end c.args.locations c.args.n (omega (arith, long, c.requires)) c.loop-k.invariant.0 (omega arith), c.loop-k.invariant.0.held.laid)

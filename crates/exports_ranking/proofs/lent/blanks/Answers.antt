@@ -1,5 +1,4 @@
 -- `blanks` is an array of blank stones. Assumes nothing.
-use borrow.Author.Rules.{rules}
 use Rattle.exports_ranking.proofs.lent.blanks.Goals as goal
 
 pub returns : goal.returns

@@ -1,5 +1,4 @@
 -- `stone_at` puts a stone together from its numbers. Assumes nothing.
-use borrow.Author.Rules.{rules}
 use Rattle.exports_ranking.specs.Ranks.{lent_stone}
 use Rattle.exports_ranking.proofs.lent.stone_at.Goals as goal
 

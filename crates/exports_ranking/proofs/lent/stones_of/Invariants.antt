@@ -1,9 +1,7 @@
 -- `stones_of` stores the lent stones one after the other. Assumes nothing.
 use Prim.Native.Nat.{◌-◌, ◌≤◌}
-use native.Mathlib.Omega.{arith}
-use mathlib.Core.Path.{◌≡◌, sym, ◌∙◌}
-use borrow.Author.Rules.{rules}
-use Rattle.exports_ranking.proofs.Stored.{filled, filled_none, filled_more, filled_all}
+use mathlib.Core.Path.{◌≡◌}
+use Rattle.exports_ranking.proofs.Stored.{filled}
 use Rattle.exports_ranking.proofs.lent.stones_of.Given as goal
 
 abbrev pub invariant-loop-k : goal.invariant-loop-k

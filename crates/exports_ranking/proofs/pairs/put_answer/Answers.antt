@@ -7,3 +7,7 @@ pub returns-in-Pairs : goal.returns-in-Pairs
 unfolding count_put status_of
 returns-in-Pairs c =
     rw c.in-Pairs.is c.put_count.ensures
+
+pub returns-in-Refused : goal.returns-in-Refused
+unfolding count_put status_of
+returns-in-Refused c = search rules

@@ -1,7 +1,6 @@
 -- `put_pair` writes two indices from a place on. Assumes nothing.
 use native.Mathlib.Omega.{arith}
 use lib.ListN.{length-set}
-use borrow.Author.Rules.{rules}
 use Rattle.told_places.proofs.Places.{put_two}
 use Rattle.exports_ranking.proofs.pairs.put_pair.Goals as goal
 

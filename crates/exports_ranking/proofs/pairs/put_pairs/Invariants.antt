@@ -1,12 +1,9 @@
 -- `put_pairs` writes an array's pairs one after the other. Assumes nothing.
 use Prim.Native.Nat.{ℕ, ◌-◌, ◌≤◌}
-use native.Mathlib.Omega.{arith}
-use mathlib.Core.Path.{◌≡◌, refl, sym, ◌∙◌}
+use mathlib.Core.Path.{◌≡◌}
 use lib.ListN.{length, get_or}
-use borrow.Author.Rules.{rules}
 use Rattle.match_capstones.specs.Answer.{no_pair}
 use Rattle.told_places.specs.Put.{put_each}
-use Rattle.told_places.proofs.Places.{each_next, each_last}
 use Rattle.exports_ranking.specs.Ranks.{pair_numbers, all_pairs}
 use Rattle.exports_ranking.proofs.pairs.put_pairs.Given as goal
 

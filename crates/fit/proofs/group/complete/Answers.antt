@@ -12,7 +12,7 @@ use Rattle.fit.proofs.group.complete.Goals as goal
 
 pub located-answer-requires : goal.located-answer-requires
 located-answer-requires c =
-    let entries : length c.args.table.entries ≡ 251 = sym (length-map c.args.table.entries _) ∙ c.well_formed.1.1.1.1.0.1.1.0.1.0.1 in
+    let entries : length c.args.table.entries ≡ 251 = c.well_formed.1.1.1.1.0.1.1.0.1.0.1 in
     let age : length c.args.table.age ≡ 251 = search (rules, c.well_formed.1.1.1.1.0) in
     let proper : Proper c.args.table c.args.width c.args.height = record { entries = entries; age = age; sound = (sound_exact c.args.table c.args.width c.args.height (omega (arith, age))).0 c.requires.0.sound } in
     let white : SameWhite c.args.width c.args.height c.args.pic.now c.find_corner-sought.new.pic = (corner_keeps c.requires.0.roomy (proper) c.requires.1.direction c.find_corner-sought.ensures).white in
@@ -20,7 +20,7 @@ located-answer-requires c =
 
 pub returns : goal.returns
 returns c =
-    let entries : length c.args.table.entries ≡ 251 = sym (length-map c.args.table.entries _) ∙ c.well_formed.1.1.1.1.0.1.1.0.1.0.1 in
+    let entries : length c.args.table.entries ≡ 251 = c.well_formed.1.1.1.1.0.1.1.0.1.0.1 in
     let age : length c.args.table.age ≡ 251 = search (rules, c.well_formed.1.1.1.1.0) in
     let proper : Proper c.args.table c.args.width c.args.height = record { entries = entries; age = age; sound = (sound_exact c.args.table c.args.width c.args.height (omega (arith, age))).0 c.requires.0.sound } in
     let white : SameWhite c.args.width c.args.height c.args.pic.now c.find_corner-sought.new.pic = (corner_keeps c.requires.0.roomy (proper) c.requires.1.direction c.find_corner-sought.ensures).white in

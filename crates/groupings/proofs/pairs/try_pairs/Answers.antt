@@ -20,15 +20,15 @@ try_pair-sofar-requires c =
 
 pub returns-then-not-is_sound : goal.returns-then-not-is_sound
 returns-then-not-is_sound c =
-    let long : length c.args.t ≡ 992 = search rules in
+    let long : length c.args.pairs ≡ 992 = search rules in
     let stops = sym c.is_sound.ensures ∙ c.if-not-is_sound.true in
-    (array_stop c.args.t c.args.count (omega (arith, long, c.requires.2)) c.loop-k.invariant.0 c.loop-k-test.true c.try_pair-sofar.result c.try_pair-sofar.ensures.0 stops, c.try_pair-sofar.ensures.1, c.try_pair-sofar.ensures.2)
+    (array_stop c.args.pairs c.args.count (omega (arith, long, c.requires.2)) c.loop-k.invariant.0 c.loop-k-test.true c.try_pair-sofar.result c.try_pair-sofar.ensures.0 stops, c.try_pair-sofar.ensures.1, c.try_pair-sofar.ensures.2)
 
 pub loop-k-preserved : goal.loop-k-preserved
 loop-k-preserved c =
-    let long : length c.args.t ≡ 992 = search rules in
+    let long : length c.args.pairs ≡ 992 = search rules in
     let goes = sym c.is_sound.ensures ∙ c.if-not-is_sound.false in (
-      array_next c.args.t c.args.count (omega (arith, long, c.requires.2)) c.loop-k.invariant.0 c.loop-k-test.true c.try_pair-sofar.result c.try_pair-sofar.ensures.0 (c.requires.3 c.loop-k.k c.loop-k-test.true) c.try_pair-sofar.ensures.1 goes,
+      array_next c.args.pairs c.args.count (omega (arith, long, c.requires.2)) c.loop-k.invariant.0 c.loop-k-test.true c.try_pair-sofar.result c.try_pair-sofar.ensures.0 (c.requires.3 c.loop-k.k c.loop-k-test.true) c.try_pair-sofar.ensures.1 goes,
       omega arith,
       omega (arith, c.loop-k.invariant.2, c.try_pair-sofar.auto.stack),
       omega (arith, c.loop-k.invariant.3, c.try_pair-sofar.auto.scratch),
@@ -37,5 +37,5 @@ loop-k-preserved c =
 
 pub returns : goal.returns
 returns c =
-    let long : length c.args.t ≡ 992 = search rules in
-    (array_end c.args.t c.args.count (omega (arith, long, c.requires.2)) c.loop-k.invariant.0 (omega arith) c.loop-k.invariant.1, c.loop-k.invariant.0.holds.laid, c.loop-k.invariant.4)
+    let long : length c.args.pairs ≡ 992 = search rules in
+    (array_end c.args.pairs c.args.count (omega (arith, long, c.requires.2)) c.loop-k.invariant.0 (omega arith) c.loop-k.invariant.1, c.loop-k.invariant.0.holds.laid, c.loop-k.invariant.4)

@@ -13,18 +13,33 @@ point_at-start-requires c = seed_low c.requires
 
 pub fill_first_corner-first-requires : goal.fill_first_corner-first-requires
 fill_first_corner-first-requires c =
-    record { fact_1 = fill_four c.requires; fact_2 = ring_sides c.requires; fact_3 = rw (c.new-finder.ensures, c.point_at-start.ensures) (first_corner_ready (seed_within c.requires)) }
+    record {
+      fact_1 = fill_four c.requires;
+      fact_2 = ring_sides c.requires;
+      fact_3 = rw (c.new-finder.ensures, c.point_at-start.ensures) (first_corner_ready (seed_within c.requires));
+    }
 
 pub new-finders-requires : goal.new-finders-requires
 unfolding first_corner
 new-finders-requires c =
-    record { fact_1 = rw at (seed_within c.requires); fact_2 = rw (c.fill_first_corner-first.ensures.1, c.new-finder.ensures, at) (corner_within c.requires) }
+    record {
+      fact_1 = rw c.point_at-start.ensures (seed_within c.requires);
+      fact_2 =
+          rw (c.fill_first_corner-first.ensures.1, c.new-finder.ensures, c.point_at-start.ensures)
+          (corner_within c.requires);
+    }
 
 pub fill_all_corners-requires : goal.fill_all_corners-requires
 unfolding first_corner
 fill_all_corners-requires c =
     let room_after : length c.args.stack.now ≤ length c.fill_first_corner-first.new.stack = omega (arith, c.fill_first_corner-first.auto.stack) in
-    record { fact_1 = fill_two c.requires c.fill_first_corner-first.ensures.0 (room_after); fact_2 = ring_sides c.requires; fact_3 = rw (c.new-finders.ensures, c.fill_first_corner-first.ensures.1, c.new-finder.ensures, at) (all_corners_ready (seed_within c.requires) (corner_within c.requires)) }
+    record {
+      fact_1 = fill_two c.requires c.fill_first_corner-first.ensures.0 room_after;
+      fact_2 = ring_sides c.requires;
+      fact_3 =
+          rw (c.new-finders.ensures, c.fill_first_corner-first.ensures.1, c.new-finder.ensures, c.point_at-start.ensures)
+          (all_corners_ready (seed_within c.requires) (corner_within c.requires));
+    }
 
 pub returns : goal.returns
 unfolding first_corner
@@ -33,5 +48,12 @@ returns c =
       between = _;
       four = c.fill_first_corner-first.ensures.0;
       two = c.fill_all_corners.ensures.0;
-      are = rw (c.fill_all_corners.ensures.1, c.new-finders.ensures, c.fill_first_corner-first.ensures.1, c.new-finder.ensures, at);
+      are =
+          rw (
+            c.fill_all_corners.ensures.1,
+            c.new-finders.ensures,
+            c.fill_first_corner-first.ensures.1,
+            c.new-finder.ensures,
+            c.point_at-start.ensures,
+          );
     }

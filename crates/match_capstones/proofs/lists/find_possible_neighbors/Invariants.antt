@@ -1,17 +1,6 @@
 -- `find_possible_neighbors` lists those of the stones passed that lie in line. A stone of the first list is not of the second. Assumes nothing.
-use Prim.Native.Nat.{◌≤◌, ◌<◌, ◌-◌}
-use mathlib.Core.Path.{◌≡◌, refl, sym, ◌∙◌}
-use mathlib.Core.List.{flat_map}
-use native.Mathlib.Omega.{arith}
-use borrow.Author.Rules.{rules}
-use borrow.Author.Tests.{not-true, not-false}
-use lib.ListN.{length, get_or}
-use lib.Seq.{get_or-take}
-use Rattle.geometry.specs.declared.Perspective.{Perspective}
-use Rattle.capstones.specs.Blank.{no_stone}
-use Rattle.match_capstones.specs.Neighbors.{others}
-use Rattle.match_capstones.proofs.Apart.{seen_once}
-use Rattle.match_capstones.proofs.Passed.{Passed, passed_few, passed_itself, passed_out, passed_in}
+use Prim.Native.Nat.{◌≤◌, ◌-◌}
+use Rattle.match_capstones.proofs.Passed.{Passed}
 use Rattle.match_capstones.proofs.lists.find_possible_neighbors.Given as goal
 
 abbrev pub invariant-loop-i : goal.invariant-loop-i

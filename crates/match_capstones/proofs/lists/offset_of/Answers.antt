@@ -1,6 +1,5 @@
 -- `offset_of` is what `unmap` answers, from the middle, without the signs. Assumes nothing.
 use lib.Ieee.{of_bits}
-use borrow.Author.Rules.{rules}
 use Rattle.match_capstones.specs.Neighbors.{offset}
 use Rattle.match_capstones.proofs.lists.offset_of.Goals as goal
 

@@ -1,11 +1,10 @@
 -- `pairs_of` takes over the pairs of the sets passed, and leaves the other places blank. Assumes nothing.
-use Prim.Native.Nat.{◌+◌, ◌≤◌, ◌-◌}
+use Prim.Native.Nat.{◌+◌}
 use native.Mathlib.Numerals.{add-one}
 use native.Mathlib.Omega.{arith}
 use mathlib.Core.Path.{◌≡◌, refl, ◌∙◌}
 use mathlib.Core.List.{[], ◌∷◌, ◌++◌, map, map-append}
-use borrow.Author.Rules.{rules}
-use lib.ListN.{length, get_or, take, replicate, length-map}
+use lib.ListN.{length, get_or, take, length-map}
 use lib.Seq.{take-suc, length-take-le}
 use Rattle.match_capstones.specs.Answer.{pair_of, no_pair}
 use Rattle.match_capstones.proofs.Arrays.{laid_more}
@@ -17,12 +16,14 @@ loop-i-init c = (omega arith, refl)
 
 pub loop-i-preserved : goal.loop-i-preserved
 loop-i-preserved c =
-    let one = pair_of (get_or c.args.t.all c.loop-i.i no_set) in
-    let long : length (map pair_of (take c.loop-i.i c.args.t.all)) ≡ c.loop-i.i = length-map (take c.loop-i.i c.args.t.all) pair_of ∙ length-take-le c.loop-i.i c.args.t.all (omega arith) in
-    let next : map pair_of (take (c.loop-i.i + 1) c.args.t.all) ≡ map pair_of (take c.loop-i.i c.args.t.all) ++ (one ∷ []) = rw (add-one, take-suc c.args.t.all c.loop-i.i no_set (omega arith), map-append) in
-    (omega arith, rw next (laid_more 992 c.loop-i.pairs (map pair_of (take c.loop-i.i c.args.t.all)) one no_pair c.loop-i.i long (omega arith) c.loop-i.invariant.1))
+    let i = c.loop-i.i in
+    let all = c.args.sets.all in
+    let one = pair_of (get_or all i no_set) in
+    let long : length (map pair_of (take i all)) ≡ i = length-map (take i all) pair_of ∙ length-take-le i all (omega arith) in
+    let next : map pair_of (take (i + 1) all) ≡ map pair_of (take i all) ++ (one ∷ []) = rw (add-one, take-suc all i no_set (omega arith), map-append) in
+    (omega arith, rw next (laid_more 992 c.loop-i.pairs (map pair_of (take i all)) one no_pair i long (omega arith) c.loop-i.invariant.1))
 
 pub returns : goal.returns
 returns c =
-    let all : c.loop-i.i ≡ c.args.t.n = omega arith in
+    let all : c.loop-i.i ≡ c.args.sets.n = omega arith in
     rw (← all) c.loop-i.invariant.1

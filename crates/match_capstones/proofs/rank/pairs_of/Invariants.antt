@@ -1,15 +1,9 @@
 -- `pairs_of` takes over the pairs of the sets passed, and leaves the other places blank. Assumes nothing.
-use Prim.Native.Nat.{◌+◌, ◌≤◌, ◌-◌}
-use native.Mathlib.Numerals.{add-one}
-use native.Mathlib.Omega.{arith}
-use mathlib.Core.Path.{◌≡◌, refl, ◌∙◌}
-use mathlib.Core.List.{[], ◌∷◌, ◌++◌, map, map-append}
-use borrow.Author.Rules.{rules}
-use lib.ListN.{length, get_or, take, replicate, length-map}
-use lib.Seq.{take-suc, length-take-le}
+use Prim.Native.Nat.{◌≤◌, ◌-◌}
+use mathlib.Core.Path.{◌≡◌}
+use mathlib.Core.List.{◌++◌, map}
+use lib.ListN.{take, replicate}
 use Rattle.match_capstones.specs.Answer.{pair_of, no_pair}
-use Rattle.match_capstones.proofs.Arrays.{laid_more}
-use Rattle.match_capstones.proofs.Next.{no_set}
 use Rattle.match_capstones.proofs.rank.pairs_of.Given as goal
 
 abbrev pub invariant-loop-i : goal.invariant-loop-i

@@ -1,6 +1,5 @@
 -- `is_viable` keeps a score below 0.25, and one that is no number. Assumes nothing.
 use lib.Ieee.{of_bits}
-use borrow.Author.Rules.{rules}
 use Rattle.match_capstones.specs.Scores.{viable}
 use Rattle.match_capstones.proofs.sets.is_viable.Goals as goal
 

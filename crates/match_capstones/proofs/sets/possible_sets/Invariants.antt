@@ -1,20 +1,11 @@
 -- `possible_sets` holds the sets that the neighbours passed make. There is room for all: the lists have no more than 63 in all. Assumes nothing.
-use Prim.Native.Nat.{◌+◌, ◌*◌, ◌≤◌, ◌<◌, ◌-◌}
-use native.Mathlib.Numerals.{add-one}
-use native.Mathlib.Omega.{arith}
-use mathlib.Core.Path.{◌≡◌, refl, sym, ap, ◌∙◌}
-use mathlib.Core.Bool.{true, false}
-use mathlib.Core.List.{List, ◌++◌, append-nil, flat_map}
-use borrow.Author.Rules.{rules}
-use borrow.Author.Tests.{not-true, not-false}
-use lib.ListN.{length, get_or, take}
-use lib.Seq.{length-take-le}
-use Rattle.match_capstones.specs.declared.Neighbor.{Neighbor}
+use Prim.Native.Nat.{◌+◌, ◌*◌, ◌≤◌, ◌-◌}
+use mathlib.Core.Path.{◌≡◌}
+use mathlib.Core.List.{◌++◌}
+use lib.ListN.{get_or, take}
 use Rattle.match_capstones.specs.Arrays.{Holds}
-use Rattle.match_capstones.specs.Scores.{viable, set_of, one_set, sets_of, made}
-use Rattle.match_capstones.proofs.Arrays.{holds_same}
-use Rattle.match_capstones.proofs.Next.{no_neighbor, flat_map_next, holds_nothing, holds_one}
-use Rattle.match_capstones.proofs.Count.{room_for_one}
+use Rattle.match_capstones.specs.Scores.{sets_of, made}
+use Rattle.match_capstones.proofs.Next.{no_neighbor}
 use Rattle.match_capstones.proofs.sets.possible_sets.Given as goal
 
 -- those of the neighbours passed of the first list with all of the second, and those of the next one with the neighbours passed of the second

@@ -1,6 +1,5 @@
 -- `score_of` divides the shorter distance by the longer. Assumes nothing.
 use lib.Ieee.{of_bits}
-use borrow.Author.Rules.{rules}
 use Rattle.match_capstones.specs.Scores.{score_of}
 use Rattle.match_capstones.proofs.sets.score_of.Goals as goal
 

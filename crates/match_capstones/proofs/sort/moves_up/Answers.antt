@@ -1,6 +1,5 @@
 -- `moves_up` asks that there is a place ahead, and that the score ranks before the one there. Assumes nothing.
 use native.Mathlib.Omega.{arith}
-use borrow.Author.Rules.{rules}
 use borrow.Author.Tests.{lt-ltb, le-ltb}
 use Rattle.match_capstones.proofs.sort.moves_up.Goals as goal
 

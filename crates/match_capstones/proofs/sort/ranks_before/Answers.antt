@@ -1,6 +1,5 @@
 -- `ranks_before` compares two scores, the second of which may be no number. Assumes nothing.
 use mathlib.Core.Path.{sym, ◌∙◌}
-use borrow.Author.Rules.{rules}
 use Rattle.match_capstones.specs.Order.{ranks_before}
 use Rattle.match_capstones.proofs.sort.ranks_before.Goals as goal
 

@@ -1,18 +1,17 @@
 -- `sorted` inserts each set where it ranks: the list ranks as it did after each exchange, and is in order at the end. Assumes nothing.
-use Prim.Native.Nat.{ℕ, suc, ◌+◌, ◌*◌, ◌≤◌, ◌-◌}
+use Prim.Native.Nat.{ℕ, suc}
 use native.Mathlib.Numerals.{add-one}
 use native.Mathlib.Omega.{arith}
 use mathlib.Core.Path.{◌≡◌, refl, sym, ◌∙◌}
 use mathlib.Core.Bool.{true, false}
-use borrow.Author.Rules.{rules}
 use borrow.Author.Tests.{ltb-true, lt-ltb}
 use lib.Dec.{ltb}
-use lib.ListN.{length, take, length-set}
+use lib.ListN.{take, length-set}
 use Rattle.match_capstones.specs.Order.{ranked}
 use Rattle.match_capstones.proofs.Arrays.{holds_first}
 use Rattle.match_capstones.proofs.Floats.{and_both, and_second}
 use Rattle.match_capstones.proofs.Swap.{sooner, at}
-use Rattle.match_capstones.proofs.Rising.{Rising, rising_starts, rising_settles, moves, moves_ranked, rising_done}
+use Rattle.match_capstones.proofs.Rising.{rising_starts, rising_settles, moves, moves_ranked, rising_done}
 use Rattle.match_capstones.proofs.sort.sorted.Goals as goal
 
 pub loop-i-init : goal.loop-i-init

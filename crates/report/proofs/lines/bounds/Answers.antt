@@ -1,7 +1,6 @@
 -- `bounds` puts one after the other. Assumes nothing.
 use Rattle.report.specs.Lines.{bound_text}
 use Rattle.report.proofs.Putting.{puts_then}
-use borrow.Author.Rules.{rules}
 use Rattle.report.proofs.lines.bounds.Goals as goal
 
 pub returns : goal.returns

@@ -1,6 +1,5 @@
 -- `coefficient` puts a space, then the number. Assumes nothing.
 use Rattle.report.proofs.Putting.{puts_then}
-use borrow.Author.Rules.{rules}
 use Rattle.report.proofs.lines.coefficient.Goals as goal
 
 pub returns : goal.returns

@@ -1,7 +1,6 @@
 -- `coefficients` puts four and four. Assumes nothing.
 use Rattle.report.specs.Lines.{coefficient_text}
 use Rattle.report.proofs.Putting.{puts_then}
-use borrow.Author.Rules.{rules}
 use Rattle.report.proofs.lines.coefficients.Goals as goal
 
 pub returns : goal.returns

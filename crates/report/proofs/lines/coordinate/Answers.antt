@@ -1,7 +1,6 @@
 -- `coordinate` puts a space, then the number. Assumes nothing.
 use mir.Facts.{to_z-of_z}
 use Rattle.report.proofs.Putting.{puts_then}
-use borrow.Author.Rules.{rules}
 use Rattle.report.proofs.lines.coordinate.Goals as goal
 
 pub returns : goal.returns

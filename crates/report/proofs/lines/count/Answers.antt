@@ -3,7 +3,6 @@ use native.Mathlib.Omega.{arith}
 use Rattle.report.specs.Lines.{count_line}
 use Rattle.report.proofs.Putting.{puts_then, puts_within}
 use Rattle.report.proofs.Decimals.{word_short}
-use borrow.Author.Rules.{rules}
 use Rattle.report.proofs.lines.count.Goals as goal
 
 pub decimal-a2-requires : goal.decimal-a2-requires

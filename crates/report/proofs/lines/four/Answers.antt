@@ -1,7 +1,6 @@
 -- `four` puts one after the other. Assumes nothing.
 use Rattle.report.specs.Lines.{four_text}
 use Rattle.report.proofs.Putting.{puts_then}
-use borrow.Author.Rules.{rules}
 use Rattle.report.proofs.lines.four.Goals as goal
 
 pub returns : goal.returns

@@ -1,6 +1,5 @@
 -- `float` puts the bits. Assumes nothing.
 use Rattle.report.specs.Numbers.{float}
-use borrow.Author.Rules.{rules}
 use Rattle.report.proofs.numbers.float.Goals as goal
 
 pub returns : goal.returns

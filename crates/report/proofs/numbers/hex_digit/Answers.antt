@@ -1,7 +1,6 @@
 -- `hex_digit` goes by the side of 10. Assumes nothing.
 use borrow.Author.Tests.{lt-ltb, le-ltb}
 use Rattle.report.specs.Numbers.{hex_digit}
-use borrow.Author.Rules.{rules}
 use Rattle.report.proofs.numbers.hex_digit.Goals as goal
 
 pub returns-then-d-lt10 : goal.returns-then-d-lt10

@@ -5,7 +5,6 @@ use Rattle.sizes.proofs.Size.{size_fits}
 use Rattle.report.proofs.Putting.{puts_then, puts_within}
 use Rattle.report.proofs.Decimals.{size_short}
 use Rattle.report.proofs.Signs.{below_signed, from_signed}
-use borrow.Author.Rules.{rules}
 use Rattle.report.proofs.numbers.signed.Goals as goal
 
 pub decimal-requires : goal.decimal-requires

@@ -1,11 +1,8 @@
 -- `word` copies byte after byte. Assumes nothing.
-use Prim.Native.Nat.{ℕ, ◌+◌, ◌-◌, ◌≤◌}
-use mathlib.Core.Path.{◌≡◌, refl, ap, ◌∙◌}
-use native.Mathlib.Omega.{arith}
-use borrow.Author.Rules.{rules}
+use Prim.Native.Nat.{◌-◌, ◌≤◌}
+use mathlib.Core.Path.{◌≡◌}
 use lib.ListN.{length, take}
-use lib.Seq.{sets, length-sets, take_all}
-use Rattle.report.proofs.Putting.{stores_next}
+use lib.Seq.{sets}
 use Rattle.report.proofs.put.word.Given as goal
 
 abbrev pub invariant-loop-i : goal.invariant-loop-i

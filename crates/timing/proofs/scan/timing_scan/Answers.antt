@@ -22,15 +22,17 @@ returns-in_default c =
 
 pub overflow_add-count : goal.overflow_add-count
 overflow_add-count c =
-    let k = one_counted _ _ _ c.loop-p.invariant (saw at) c.get_pixel_at_point-pixel.ensures c.differ-count.ensures in
+    let saw : step_of c.loop-p.scan ≡ Seen c.in-Seen.p c.in-Seen.next = sym c.step-step.ensures ∙ c.in-Seen.is in
+    let k = one_counted _ _ _ c.loop-p.invariant saw c.get_pixel_at_point-pixel.ensures c.differ-count.ensures in
     record { fits = omega (arith, k.few, k.good.d_low, k.good.i_low) }
 
 pub loop-p-smaller : goal.loop-p-smaller
 loop-p-smaller c =
     let saw : step_of c.loop-p.scan ≡ Seen c.in-Seen.p c.in-Seen.next = sym c.step-step.ensures ∙ c.in-Seen.is in
-    let next = step_seen _ _ _ (saw) in
+    let next = step_seen _ _ _ saw in
     omega arith
 
 pub loop-p-preserved : goal.loop-p-preserved
 loop-p-preserved c =
-    one_counted _ _ _ c.loop-p.invariant (saw at) c.get_pixel_at_point-pixel.ensures c.differ-count.ensures
+    let saw : step_of c.loop-p.scan ≡ Seen c.in-Seen.p c.in-Seen.next = sym c.step-step.ensures ∙ c.in-Seen.is in
+    one_counted _ _ _ c.loop-p.invariant saw c.get_pixel_at_point-pixel.ensures c.differ-count.ensures

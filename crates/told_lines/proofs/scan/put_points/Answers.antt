@@ -30,22 +30,26 @@ returns-in_default c =
 
 pub numbers_at-requires : goal.numbers_at-requires
 numbers_at-requires c =
-    two_left c.loop-p.invariant (saw at) c.requires.fact_2
+    let saw : step_of c.loop-p.scan ≡ Seen c.in-Seen.p c.in-Seen.next = sym c.step-step.ensures ∙ c.in-Seen.is in
+    two_left c.loop-p.invariant saw c.requires.fact_2
 
 pub overflow_add-at : goal.overflow_add-at
 overflow_add-at c =
-    let room = two_left c.loop-p.invariant (saw at) c.requires.fact_2 in
+    let saw : step_of c.loop-p.scan ≡ Seen c.in-Seen.p c.in-Seen.next = sym c.step-step.ensures ∙ c.in-Seen.is in
+    let room = two_left c.loop-p.invariant saw c.requires.fact_2 in
     let same = same_room c.loop-p.invariant c.requires.fact_2 in
     record { fits = omega (arith, c.well_formed) }
 
 pub loop-p-smaller : goal.loop-p-smaller
 loop-p-smaller c =
-    let next = step_seen _ _ _ (saw at) in
+    let saw : step_of c.loop-p.scan ≡ Seen c.in-Seen.p c.in-Seen.next = sym c.step-step.ensures ∙ c.in-Seen.is in
+    let next = step_seen _ _ _ saw in
     omega arith
 
 pub loop-p-preserved : goal.loop-p-preserved
 loop-p-preserved c =
+    let saw : step_of c.loop-p.scan ≡ Seen c.in-Seen.p c.in-Seen.next = sym c.step-step.ensures ∙ c.in-Seen.is in
     let same_x : to_z w32 (of_z w32 c.in-Seen.p.x) ≡ c.in-Seen.p.x = search rules in
     let same_y : to_z w32 (of_z w32 c.in-Seen.p.y) ≡ c.in-Seen.p.y = search rules in
     let stored = rw (same_x, same_y) at c.numbers_at.ensures in
-    rw stored (more_written c.loop-p.invariant (saw at) c.requires.fact_2)
+    rw stored (more_written c.loop-p.invariant saw c.requires.fact_2)
