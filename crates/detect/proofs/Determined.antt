@@ -2,11 +2,10 @@
 use Prim.Native.Nat.{ℕ}
 use native.Mathlib.Nat.{le_refl}
 use native.Mathlib.Omega.{arith}
-use mathlib.Core.Path.{◌≡◌, refl, sym, ap, ◌∙◌, subst}
+use mathlib.Core.Path.{◌≡◌, sym, ap, ◌∙◌, subst}
 use mathlib.Core.List.{List, []}
 use lib.ListN.{length}
 use Rattle.refusals.specs.Finding.{Finding, found, refused}
-use Rattle.refusals.specs.First.{first, sound}
 use Rattle.picture.specs.Sides.{Roomy}
 use Rattle.table.specs.Table.{empty_table}
 use Rattle.table.specs.declared.Table.{Table}
@@ -17,7 +16,6 @@ use Rattle.marks.specs.InWork.{InWork}
 use Rattle.marks.proofs.Determined.{searches_same}
 use Rattle.found_stones.proofs.Keeps.{search_keeps}
 use Rattle.alignment.proofs.Spiralling.{still_roomy}
-use Rattle.grids.specs.declared.SkewedGridLocation.{SkewedGridLocation}
 use Rattle.groupings.specs.Groups.{Grouped}
 use Rattle.groupings.specs.Held.{Stones}
 use Rattle.groupings.specs.declared.Trio.{Trio}
@@ -26,7 +24,7 @@ use Rattle.locations.specs.Pass.{FitsAll}
 use Rattle.locations.proofs.Determined.{pass_same}
 use Rattle.detect.specs.Telling.{Telling, tells_located, outcome, LaidOut}
 use Rattle.detect.specs.Stages.{Finishes, ungrouped, fitted, Gathers, unmarked, grouped, Finds}
-use Rattle.detect.specs.Detect.{detect_tests, DetectsWhole, finds, puts_back, DetectPost, refuses, detects}
+use Rattle.detect.specs.Detect.{DetectsWhole, finds, puts_back, DetectPost, refuses, detects}
 use Rattle.detect.specs.declared.Findings.{Findings}
 use Rattle.detect.proofs.Told.{same_findings}
 use Rattle.detect.proofs.Staged.{then_ready, then_stones}

@@ -1,5 +1,5 @@
 -- Whole numbers of 32 bits, written with 2^31 added to them. Assumes nothing.
-use Prim.Native.Nat.{ℕ, suc, ◌-◌, ◌+◌, ◌^◌, ◌<◌}
+use Prim.Native.Nat.{ℕ, suc, ◌^◌, ◌<◌}
 use native.Mathlib.Decide.{dec_lt}
 use native.Mathlib.Omega.{arith}
 use mathlib.Core.Path.{◌≡◌, refl}

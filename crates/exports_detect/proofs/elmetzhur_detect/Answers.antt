@@ -1,7 +1,6 @@
 -- `elmetzhur_detect` detects once there are places for what it tells, and tells it. Assumes nothing.
 use mathlib.Core.Path.{refl}
 use mathlib.Core.Logic.{inl, inr}
-use borrow.Author.Rules.{rules}
 use Rattle.exports_detect.specs.Tells.{short, told}
 use Rattle.exports_detect.proofs.elmetzhur_detect.Goals as goal
 

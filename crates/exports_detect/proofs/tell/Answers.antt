@@ -1,6 +1,5 @@
 -- `tell` writes what is found, or tells a refusal's number. Assumes nothing.
 use mathlib.Core.Path.{refl}
-use borrow.Author.Rules.{rules}
 use Rattle.told_places.specs.Values.{status_of}
 use Rattle.exports_detect.specs.Tells.{counts_after, places_after, floats_after}
 use Rattle.exports_detect.proofs.tell.Goals as goal

@@ -2,7 +2,6 @@
 use mathlib.Core.Path.{sym, ◌∙◌}
 use mathlib.Core.List.{[], ◌∷◌}
 use lib.ListN.{length}
-use borrow.Author.Rules.{rules}
 use Rattle.refusals.specs.First.{sound}
 use Rattle.picture.specs.Sides.{room_test, room_tests}
 use Rattle.picture.specs.Bitmap.{byte_test}

@@ -1,6 +1,5 @@
 -- `find` searches the marks from the empty table, and gathers. Assumes nothing.
 use native.Mathlib.Omega.{arith}
-use borrow.Author.Rules.{rules}
 use Rattle.found_stones.proofs.Keeps.{search_keeps}
 use Rattle.detect.proofs.Ready.{array_stones}
 use Rattle.detect.proofs.Staged.{then_workable}

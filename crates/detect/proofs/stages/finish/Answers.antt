@@ -1,6 +1,5 @@
 -- `finish` hands a refusal on, or fits the groups and tells what is located. Assumes nothing.
-use mathlib.Core.Path.{◌≡◌, refl, ap}
-use borrow.Author.Rules.{rules}
+use mathlib.Core.Path.{refl, ap}
 use Rattle.picture.specs.declared.Verdict.{Verdict}
 use Rattle.laid.specs.Laid.{told}
 use Rattle.groupings.specs.Held.{groups_of}

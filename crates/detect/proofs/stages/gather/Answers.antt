@@ -1,8 +1,7 @@
 -- `gather` hands a refusal on, or groups the stones and finishes. Assumes nothing.
-use mathlib.Core.Path.{◌≡◌, refl, ap, subst}
+use mathlib.Core.Path.{refl, ap, subst}
 use Prim.Native.Nat.{ℕ}
 use lib.Seq.{length-take-le}
-use borrow.Author.Rules.{rules}
 use Rattle.picture.specs.declared.Verdict.{Verdict}
 use Rattle.laid.specs.Laid.{told}
 use Rattle.marks.specs.Search.{stones_of}

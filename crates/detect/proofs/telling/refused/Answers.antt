@@ -1,6 +1,5 @@
 -- `refused` tells a refusal, and blanks. Assumes nothing.
 use mathlib.Core.Path.{refl}
-use borrow.Author.Rules.{rules}
 use Rattle.detect.proofs.Told.{told_refusal}
 use Rattle.detect.proofs.telling.refused.Goals as goal
 

@@ -1,6 +1,5 @@
 -- `with_grids` tells the grids, or what refuses them. Assumes nothing.
 use mathlib.Core.Path.{refl}
-use borrow.Author.Rules.{rules}
 use Rattle.laid.specs.Laid.{told}
 use Rattle.detect.specs.Telling.{tells}
 use Rattle.detect.proofs.Told.{told_grids}

@@ -1,6 +1,5 @@
 -- `with_locations` takes the bounds of what is located, where nothing is refused. Assumes nothing.
 use mathlib.Core.Path.{ap, ◌∙◌}
-use borrow.Author.Rules.{rules}
 use Rattle.laid.specs.Laid.{told}
 use Rattle.detect.specs.Telling.{tells, tells_located}
 use Rattle.detect.proofs.telling.with_locations.Goals as goal

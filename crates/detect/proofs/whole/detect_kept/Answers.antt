@@ -1,9 +1,6 @@
 -- `detect_kept` takes the paint off where a stage refuses. Assumes nothing.
 use mathlib.Core.Path.{refl, sym, ◌∙◌, subst}
-use mathlib.Core.List.{List}
 use lib.ListN.{length}
-use borrow.Author.Tests.{not-true, not-false}
-use borrow.Author.Rules.{rules}
 use Rattle.refusals.specs.Finding.{Finding}
 use Rattle.detect.specs.Telling.{Telling}
 use Rattle.detect.specs.Stages.{Finds}

@@ -1,13 +1,10 @@
 -- `put_grids` writes an array's grids one after the other. Assumes nothing.
 use Prim.Native.Nat.{ℕ, ◌-◌, ◌≤◌}
-use native.Mathlib.Omega.{arith}
-use mathlib.Core.Path.{◌≡◌, refl, sym, ◌∙◌}
+use mathlib.Core.Path.{◌≡◌}
 use lib.ListN.{length}
-use borrow.Author.Rules.{rules}
 use Rattle.told_places.specs.Put.{put_each}
 use Rattle.told_places.specs.Values.{floats_of}
 use Rattle.exports_detect.specs.Tells.{places_of, grid_at, all_places, all_floats}
-use Rattle.told_places.proofs.Places.{each_next, each_last}
 use Rattle.exports_detect.proofs.places.put_grids.Given as goal
 
 abbrev pub invariant-loop-k : goal.invariant-loop-k

@@ -1,5 +1,4 @@
 -- `put_places` writes a grid's size and its four bounds, one behind the other. Assumes nothing.
-use borrow.Author.Rules.{rules}
 use Rattle.told_places.proofs.Places.{put_nine}
 use Rattle.exports_detect.proofs.places.put_places.Goals as goal
 

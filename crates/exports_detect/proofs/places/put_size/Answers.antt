@@ -1,7 +1,6 @@
 -- `put_size` writes a grid's size as a whole number. Assumes nothing.
 use Prim.Native.Nat.{◌<◌}
 use native.Mathlib.Omega.{arith}
-use borrow.Author.Rules.{rules}
 use mir.Syntax.{w32}
 use mir.Facts.{to_z_pos}
 use Rattle.exports_detect.proofs.places.put_size.Goals as goal

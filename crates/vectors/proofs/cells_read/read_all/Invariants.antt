@@ -1,5 +1,4 @@
 -- `read_all` ends: a cell asks nothing. Assumes nothing.
-use borrow.Author.Rules.{rules}
 use Rattle.vectors.proofs.cells_read.read_all.Given as goal
 
 abbrev pub invariant-loop-left : goal.invariant-loop-left

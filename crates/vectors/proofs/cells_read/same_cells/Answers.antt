@@ -1,7 +1,6 @@
 -- `same_cells` lends the first n bytes. Assumes nothing.
 use native.Mathlib.Omega.{arith}
 use lib.ListN.{length-take}
-use borrow.Author.Rules.{rules}
 use Rattle.vectors.proofs.cells_read.same_cells.Goals as goal
 
 pub slice_bounds-read_all-end-2 : goal.slice_bounds-read_all-end-2

@@ -1,5 +1,4 @@
 -- `expect` goes on behind the word, whatever it says. Assumes nothing.
-use borrow.Author.Rules.{rules}
 use Rattle.vectors.proofs.Expecting.{expect_same, expect_other}
 use Rattle.vectors.proofs.checks.expect.Goals as goal
 

@@ -1,5 +1,4 @@
 -- `expect_float` expects the bits. Assumes nothing.
-use borrow.Author.Rules.{rules}
 use Rattle.vectors.proofs.checks.expect_float.Goals as goal
 
 pub returns : goal.returns

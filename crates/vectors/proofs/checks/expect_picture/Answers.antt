@@ -1,6 +1,5 @@
 -- `expect_picture` expects both sums. Assumes nothing.
 use Rattle.vectors.specs.Checks.{summed_up}
-use borrow.Author.Rules.{rules}
 use Rattle.vectors.proofs.checks.expect_picture.Goals as goal
 
 pub returns : goal.returns

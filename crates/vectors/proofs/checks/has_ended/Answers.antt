@@ -2,7 +2,6 @@
 use lib.ListN.{length}
 use borrow.Author.Tests.{lt-ltb, le-ltb, not-true, not-false}
 use Rattle.vectors.specs.Checks.{ended}
-use borrow.Author.Rules.{rules}
 use Rattle.vectors.proofs.checks.has_ended.Goals as goal
 
 pub returns-then-not-check : goal.returns-then-not-check

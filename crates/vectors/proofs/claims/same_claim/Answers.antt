@@ -1,7 +1,6 @@
 -- `same_claim` lends the first bytes and entries. Assumes nothing.
 use native.Mathlib.Omega.{arith}
 use lib.ListN.{length-take}
-use borrow.Author.Rules.{rules}
 use Rattle.vectors.proofs.claims.same_claim.Goals as goal
 
 pub slice_bounds-claim_drawn-end-2 : goal.slice_bounds-claim_drawn-end-2

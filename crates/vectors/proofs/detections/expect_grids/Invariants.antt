@@ -1,6 +1,5 @@
 -- `expect_grids` stays within the array. Assumes nothing.
 use Prim.Native.Nat.{◌-◌, ◌≤◌}
-use borrow.Author.Rules.{rules}
 use Rattle.vectors.proofs.detections.expect_grids.Given as goal
 
 abbrev pub invariant-loop-k : goal.invariant-loop-k

@@ -1,7 +1,6 @@
 -- `same_detect` lends the first bytes and entries. Assumes nothing.
 use native.Mathlib.Omega.{arith}
 use lib.ListN.{length-take}
-use borrow.Author.Rules.{rules}
 use Rattle.vectors.proofs.detections.same_detect.Goals as goal
 
 pub slice_bounds-detect_drawn-end-2 : goal.slice_bounds-detect_drawn-end-2

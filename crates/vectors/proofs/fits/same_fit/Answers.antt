@@ -1,7 +1,6 @@
 -- `same_fit` lends the first bytes and entries. Assumes nothing.
 use native.Mathlib.Omega.{arith}
 use lib.ListN.{length-take}
-use borrow.Author.Rules.{rules}
 use Rattle.vectors.proofs.fits.same_fit.Goals as goal
 
 pub slice_bounds-fit_drawn-end-2 : goal.slice_bounds-fit_drawn-end-2

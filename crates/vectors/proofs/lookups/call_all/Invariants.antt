@@ -1,7 +1,6 @@
 -- `call_all` ends: a call asks nothing. Assumes nothing.
 use mathlib.Core.Path.{◌≡◌}
 use lib.ListN.{length}
-use borrow.Author.Rules.{rules}
 use Rattle.vectors.proofs.lookups.call_all.Given as goal
 
 abbrev pub invariant-loop-left : goal.invariant-loop-left

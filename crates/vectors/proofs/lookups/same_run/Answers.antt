@@ -1,7 +1,6 @@
 -- `same_run` lends the first bytes and entries. Assumes nothing.
 use native.Mathlib.Omega.{arith}
 use lib.ListN.{length-take}
-use borrow.Author.Rules.{rules}
 use Rattle.vectors.proofs.lookups.same_run.Goals as goal
 
 pub slice_bounds-run_drawn-end-2 : goal.slice_bounds-run_drawn-end-2

@@ -1,5 +1,4 @@
 -- `bit_of` takes the four bits by cases. Assumes nothing.
-use borrow.Author.Rules.{rules}
 use borrow.Author.Tests.{eq-eqb, ne_eqb}
 use Rattle.vectors.specs.Pictures.{bit_of}
 use Rattle.vectors.proofs.pictures.bit_of.Goals as goal

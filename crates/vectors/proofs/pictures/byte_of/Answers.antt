@@ -1,6 +1,5 @@
 -- `byte_of` puts two digits together. Assumes nothing.
 use mathlib.Core.Path.{refl}
-use borrow.Author.Rules.{rules}
 use Rattle.vectors.specs.Pictures.{byte_of}
 use Rattle.vectors.proofs.pictures.byte_of.Goals as goal
 

@@ -1,7 +1,6 @@
 -- `draw` lends the first n bytes. Assumes nothing.
 use native.Mathlib.Omega.{arith}
 use lib.ListN.{length-take}
-use borrow.Author.Rules.{rules}
 use Rattle.vectors.proofs.pictures.draw.Goals as goal
 
 pub slice_bounds-draw_digits-end-2 : goal.slice_bounds-draw_digits-end-2

@@ -1,9 +1,6 @@
 -- `draw_bits` sets pixel after pixel. Assumes nothing.
-use Prim.Native.Nat.{◌-◌}
-use lib.ListN.{length}
-use borrow.Author.Rules.{rules}
 use Rattle.vectors.specs.Pictures.{bit_at}
-use Rattle.vectors.proofs.Drawing.{Drawing, draws, draws_on, drawn}
+use Rattle.vectors.proofs.Drawing.{draws, draws_on, drawn}
 use Rattle.vectors.proofs.pictures.draw_bits.Goals as goal
 
 pub loop-i-init : goal.loop-i-init

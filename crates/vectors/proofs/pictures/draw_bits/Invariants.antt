@@ -1,9 +1,8 @@
 -- `draw_bits` sets pixel after pixel. Assumes nothing.
 use Prim.Native.Nat.{◌-◌}
 use lib.ListN.{length}
-use borrow.Author.Rules.{rules}
 use Rattle.vectors.specs.Pictures.{bit_at}
-use Rattle.vectors.proofs.Drawing.{Drawing, draws, draws_on, drawn}
+use Rattle.vectors.proofs.Drawing.{Drawing}
 use Rattle.vectors.proofs.pictures.draw_bits.Given as goal
 
 abbrev pub invariant-loop-i : goal.invariant-loop-i

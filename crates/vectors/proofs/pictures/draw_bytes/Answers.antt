@@ -1,9 +1,6 @@
 -- `draw_bytes` sets pixel after pixel. Assumes nothing.
-use Prim.Native.Nat.{◌-◌}
-use lib.ListN.{length}
-use borrow.Author.Rules.{rules}
 use Rattle.vectors.specs.Pictures.{byte_at}
-use Rattle.vectors.proofs.Drawing.{Drawing, draws, draws_on, drawn}
+use Rattle.vectors.proofs.Drawing.{draws, draws_on, drawn}
 use Rattle.vectors.proofs.pictures.draw_bytes.Goals as goal
 
 pub loop-i-init : goal.loop-i-init

@@ -1,9 +1,8 @@
 -- `draw_bytes` sets pixel after pixel. Assumes nothing.
 use Prim.Native.Nat.{◌-◌}
 use lib.ListN.{length}
-use borrow.Author.Rules.{rules}
 use Rattle.vectors.specs.Pictures.{byte_at}
-use Rattle.vectors.proofs.Drawing.{Drawing, draws, draws_on, drawn}
+use Rattle.vectors.proofs.Drawing.{Drawing}
 use Rattle.vectors.proofs.pictures.draw_bytes.Given as goal
 
 abbrev pub invariant-loop-i : goal.invariant-loop-i

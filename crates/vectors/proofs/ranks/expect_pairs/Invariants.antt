@@ -1,6 +1,5 @@
 -- `expect_pairs` stays within the array. Assumes nothing.
 use Prim.Native.Nat.{◌-◌, ◌≤◌}
-use borrow.Author.Rules.{rules}
 use Rattle.vectors.proofs.ranks.expect_pairs.Given as goal
 
 abbrev pub invariant-loop-k : goal.invariant-loop-k

@@ -1,6 +1,5 @@
 -- `read_stones` stays within the array. Assumes nothing.
 use Prim.Native.Nat.{◌-◌, ◌≤◌}
-use borrow.Author.Rules.{rules}
 use Rattle.vectors.proofs.ranks.read_stones.Given as goal
 
 abbrev pub invariant-loop-k : goal.invariant-loop-k

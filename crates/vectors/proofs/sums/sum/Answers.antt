@@ -1,11 +1,7 @@
 -- `sum` takes byte after byte: the bytes that are left lead where the whole picture leads. Assumes nothing.
-use Prim.Native.Nat.{◌-◌, ◌≤◌, ◌<◌}
 use native.Mathlib.Nat.{mod-lt}
 use native.Mathlib.Omega.{arith}
-use mathlib.Core.Path.{◌≡◌, refl, sym, ◌∙◌}
-use lib.ListN.{length, drop}
-use borrow.Author.Rules.{rules}
-use Rattle.vectors.specs.Sums.{modulus, summed}
+use mathlib.Core.Path.{refl, sym, ◌∙◌}
 use Rattle.vectors.proofs.Summing.{sum_on, sum_end, product_fits}
 use Rattle.vectors.proofs.sums.sum.Goals as goal
 

@@ -1,12 +1,8 @@
 -- `sum` takes byte after byte: the bytes that are left lead where the whole picture leads. Assumes nothing.
 use Prim.Native.Nat.{◌-◌, ◌≤◌, ◌<◌}
-use native.Mathlib.Nat.{mod-lt}
-use native.Mathlib.Omega.{arith}
-use mathlib.Core.Path.{◌≡◌, refl, sym, ◌∙◌}
+use mathlib.Core.Path.{◌≡◌}
 use lib.ListN.{length, drop}
-use borrow.Author.Rules.{rules}
 use Rattle.vectors.specs.Sums.{modulus, summed}
-use Rattle.vectors.proofs.Summing.{sum_on, sum_end, product_fits}
 use Rattle.vectors.proofs.sums.sum.Given as goal
 
 abbrev pub invariant-loop-i : goal.invariant-loop-i

@@ -1,6 +1,5 @@
 -- `expect_table` stays within the arrays. Assumes nothing.
 use Prim.Native.Nat.{◌-◌, ◌≤◌}
-use borrow.Author.Rules.{rules}
 use Rattle.vectors.proofs.tables.expect_table.Given as goal
 
 abbrev pub invariant-loop-k : goal.invariant-loop-k

@@ -1,6 +1,5 @@
 -- `read_table` stays within the arrays. Assumes nothing.
 use Prim.Native.Nat.{◌-◌, ◌≤◌}
-use borrow.Author.Rules.{rules}
 use Rattle.vectors.proofs.tables.read_table.Given as goal
 
 abbrev pub invariant-loop-k : goal.invariant-loop-k

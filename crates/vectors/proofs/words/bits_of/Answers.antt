@@ -1,5 +1,4 @@
 -- `bits_of` gives the bits: only a NaN differs from itself. Assumes nothing.
-use borrow.Author.Rules.{rules}
 use mathlib.Core.Path.{◌≡◌, sym, subst}
 use mathlib.Core.Bool.{false, not, true≢false}
 use lib.Dec.{T}

@@ -1,12 +1,10 @@
 -- `read_word` reads digit after digit: the digits that are left lead where the whole word leads. Assumes nothing.
-use Prim.Native.Nat.{◌≤◌}
 use native.Mathlib.Omega.{arith}
-use mathlib.Core.Path.{◌≡◌, sym, ◌∙◌}
+use mathlib.Core.Path.{sym, ◌∙◌}
 use lib.ListN.{length}
-use borrow.Author.Rules.{rules}
 use borrow.Author.Tests.{le-leb, lt-leb}
-use Rattle.vectors.specs.Words.{read_on, word_at}
-use Rattle.vectors.proofs.Digits.{ends_at, ends_here, goes_on, Room, room_now, room_on}
+use Rattle.vectors.specs.Words.{word_at}
+use Rattle.vectors.proofs.Digits.{ends_at, ends_here, goes_on, room_now, room_on}
 use Rattle.vectors.proofs.words.read_word.Goals as goal
 
 pub returns-then-at-text : goal.returns-then-at-text

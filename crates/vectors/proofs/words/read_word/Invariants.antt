@@ -1,12 +1,8 @@
 -- `read_word` reads digit after digit: the digits that are left lead where the whole word leads. Assumes nothing.
 use Prim.Native.Nat.{◌≤◌}
-use native.Mathlib.Omega.{arith}
-use mathlib.Core.Path.{◌≡◌, sym, ◌∙◌}
-use lib.ListN.{length}
-use borrow.Author.Rules.{rules}
-use borrow.Author.Tests.{le-leb, lt-leb}
+use mathlib.Core.Path.{◌≡◌}
 use Rattle.vectors.specs.Words.{read_on, word_at}
-use Rattle.vectors.proofs.Digits.{ends_at, ends_here, goes_on, Room, room_now, room_on}
+use Rattle.vectors.proofs.Digits.{Room}
 use Rattle.vectors.proofs.words.read_word.Given as goal
 
 abbrev pub invariant-loop-left : goal.invariant-loop-left

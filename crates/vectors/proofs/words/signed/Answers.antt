@@ -3,7 +3,6 @@ use Prim.Native.Nat.{◌%◌, ◌^◌}
 use native.Mathlib.Omega.{arith}
 use mathlib.Core.Path.{◌≡◌}
 use lib.IntN.{pos}
-use borrow.Author.Rules.{rules}
 use mir.Syntax.{w64}
 use mir.Val.{to_z}
 use mir.Facts.{to_z-of_z, to_z_pos}
