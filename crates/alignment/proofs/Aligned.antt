@@ -1,4 +1,5 @@
 -- What claiming the alignment pattern asks and gives: the point is the leftmost of its piece, and all is determined. Assumes nothing.
+use Rattle.std.specs.Prelude.{Some}
 use Prim.Native.Nat.{ℕ, ◌^◌, ◌≤◌, ◌<◌}
 use native.Mathlib.Omega.{arith}
 use mathlib.Core.Path.{◌≡◌, sym, ap, ◌∙◌}
@@ -27,7 +28,6 @@ use Rattle.corners.proofs.Signed.{back, is_own, is_back}
 use Rattle.corners.proofs.Small.{point_within}
 use Rattle.alignment.specs.Visit.{place_of}
 use Rattle.alignment.specs.Pattern.{Claimable, Aligns}
-use Rattle.alignment.specs.declared.visit.Place.TheVariants.{Pixel}
 use Rattle.alignment.proofs.Places.{pixel_in, on_picture_lem}
 use Rattle.alignment.proofs.Kept.{SameWhite, paint_white}
 use Rattle.alignment.proofs.Sighted.{Sighted}
@@ -40,7 +40,7 @@ inside_low z I =
     rw (is_back (is_own low (lit< tt))) (omega (arith, low))
 
 -- the point that a place has as a pixel
-point_is : (w h : ℕ) (at : Point) (x y : ℕ) → place_of w h at ≡ Pixel x y → at ≡ point_at x y
+point_is : (w h : ℕ) (at : Point) (x y : ℕ) → place_of w h at ≡ Some (x, y) → at ≡ point_at x y
 point_is w h at x y e =
     let i = pixel_in w h at.x at.y x y e in
     let ex = i.0 in
@@ -72,7 +72,7 @@ module _ {p : List ℕ} {w h lent : ℕ} {at hd : Point} (C : Claimable p w h le
   pub claim_fills : Fillable p w h (nat_abs at.x) (nat_abs at.y) 3 lent
   claim_fills = rw (column_is, line_is) can_claim
 
-  pub claim_place : place_of w h at ≡ Pixel (nat_abs at.x) (nat_abs at.y)
+  pub claim_place : place_of w h at ≡ Some (nat_abs at.x, nat_abs at.y)
   claim_place = rw (column_is, line_is) C.place
 
   module _ {r : Point} {q : List ℕ} (A : Aligns p w h at hd r q) where

@@ -1,4 +1,6 @@
 -- The estimate: it is an area that an i32 holds, it is at most 10,000 where it is not refused, and it is determined. Assumes nothing.
+use Rattle.std.specs.Prelude.{Result, Ok, Err}
+use Rattle.refusals.specs.declared.Refusal.{Refusal}
 use Prim.Native.Nat.{ℕ, ◌^◌, ◌≤◌, ◌<◌}
 use native.Mathlib.Nat.{lt_of_le_of_lt}
 use native.Mathlib.Omega.{arith}
@@ -20,8 +22,6 @@ use Rattle.corners.proofs.Small.{way_direction}
 use Rattle.groups.specs.Side.{side_of}
 use Rattle.groups.proofs.Beside.{side_is}
 use Rattle.alignment.specs.Estimate.{meaning, area_of, estimate_by, estimate_between, estimate_of}
-use Rattle.alignment.specs.declared.estimate.Estimate.{Estimate}
-use Rattle.alignment.specs.declared.estimate.Estimate.TheVariants.{Size, Refused}
 
 module _ (seed a c : Point) where
   -- the area is how far a lies beside the line from the seed to c, times the length of that line
@@ -61,12 +61,12 @@ pub estimate_few : (c0 c2 : Perspective) (seed : Point) (n : ℕ) → estimate_o
 unfolding estimate_of
 estimate_few c0 c2 seed n e = between_few seed _ _ n e
 
-meaning_only : (a b : Estimate) → meaning a ≡ meaning b → a ≡ b
-meaning_only (Size m) (Size n) e = ap Size (cc)
-meaning_only (Size m) (Refused r) e = clash (sym e)
-meaning_only (Refused q) (Size n) e = clash e
-meaning_only (Refused q) (Refused r) e = ap Refused (refusal_only {a = q} {b = r} e)
+meaning_only : (a b : Result ℕ Refusal) → meaning a ≡ meaning b → a ≡ b
+meaning_only (Ok m) (Ok n) e = ap Ok (cc)
+meaning_only (Ok m) (Err r) e = clash (sym e)
+meaning_only (Err q) (Ok n) e = clash e
+meaning_only (Err q) (Err r) e = ap Err (refusal_only {a = q} {b = r} e)
 
 -- two answers that the contract allows coincide
-pub estimate_only : (a b : Estimate) (f : Finding ℕ) → meaning a ≡ f → meaning b ≡ f → a ≡ b
+pub estimate_only : (a b : Result ℕ Refusal) (f : Finding ℕ) → meaning a ≡ f → meaning b ≡ f → a ≡ b
 estimate_only a b f p q = meaning_only a b (p ∙ sym q)

@@ -1,4 +1,7 @@
 -- Determined: two outcomes that the contract of the search allows coincide. Assumes nothing.
+use Rattle.std.specs.Prelude.{Option, Some, None, Result, Ok, Err}
+use Rattle.std.proofs.lemmas.Option.{some_pair_parts}
+use Rattle.refusals.specs.declared.Refusal.{Refusal}
 use Prim.Native.Nat.{ℕ, ◌*◌, ◌≤◌, ◌<◌}
 use native.Mathlib.Nat.{le_refl}
 use native.Mathlib.Omega.{arith}
@@ -16,22 +19,18 @@ use Rattle.alignment.specs.Spiral.{first_pass, next_pass, moved}
 use Rattle.alignment.specs.Visit.{visit_of, VisitsPixel, white, not_listed, looked, Visits, beside, at_pixel}
 use Rattle.alignment.specs.Search.{meaning, Spirals, too_far, moves, stays, here, stops}
 use Rattle.alignment.specs.declared.spiral.Pass.{Pass}
-use Rattle.alignment.specs.declared.visit.Place.{Place}
-use Rattle.alignment.specs.declared.visit.Place.TheVariants.{Pixel}
 use Rattle.alignment.specs.declared.visit.Visit.{Visit}
-use Rattle.alignment.specs.declared.visit.Visit.TheVariants.{Moves, Stays, Here, Refused}
-use Rattle.alignment.specs.declared.search.Sighting.{Sighting}
-use Rattle.alignment.specs.declared.search.Sighting.TheVariants as sighting
+use Rattle.alignment.specs.declared.visit.Visit.TheVariants.{Moves, Stays, Here}
 use Rattle.alignment.specs.declared.search.Sought.{Sought}
 use Rattle.alignment.proofs.Places.{pixel_in}
 use Rattle.alignment.proofs.Visiting.{can_look, visit_keeps}
 use Rattle.alignment.proofs.Spiralling.{still_roomy}
 
-one_place : (x y a b : ℕ) {o : Place} → o ≡ Pixel x y → o ≡ Pixel a b → (a ≡ x) × (b ≡ y)
-one_place x y a b e f = ((cc), (cc))
+one_place : (x y a b : ℕ) {o : Option (ℕ × ℕ)} → o ≡ Some (x, y) → o ≡ Some (a, b) → (a ≡ x) × (b ≡ y)
+one_place x y a b e f = some_pair_parts a x b y (sym f ∙ e)
 
 module _ {p : List ℕ} {w h lent : ℕ} {T : Table} {estimate : ℕ} (R : Roomy w h (length p) lent) (P : Proper T w h) where
-  module _ {x y : ℕ} (hx : x < w) (hy : y < h) {v u : Visit} {q r : List ℕ} {U Z : Table} where
+  module _ {x y : ℕ} (hx : x < w) (hy : y < h) {v u : Result Visit Refusal} {q r : List ℕ} {U Z : Table} where
     pixel_same : VisitsPixel p w h T estimate x y v q U → VisitsPixel p w h T estimate x y u r Z → Alike v q U u r Z
     pixel_same (white z e s t) (white y f m n) = (e ∙ sym f, s ∙ sym m, t ∙ sym n)
     pixel_same (white z e s t) (not_listed d i f m n) = absurd (d z)
@@ -45,7 +44,7 @@ module _ {p : List ℕ} {w h lent : ℕ} {T : Table} {estimate : ℕ} (R : Roomy
         let s = looks_unique (can_look R P hx hy d i) L M in
         (e ∙ ap (visit_of estimate) s.0 ∙ sym f, s.1, s.2)
 
-  visit_same : {at : Point} {v u : Visit} {q r : List ℕ} {U Z : Table} → Visits p w h T estimate at v q U → Visits p w h T estimate at u r Z → Alike v q U u r Z
+  visit_same : {at : Point} {v u : Result Visit Refusal} {q r : List ℕ} {U Z : Table} → Visits p w h T estimate at v q U → Visits p w h T estimate at u r Z → Alike v q U u r Z
   visit_same (beside o e s t) (beside g f m n) = (e ∙ sym f, s ∙ sym m, t ∙ sym n)
   visit_same (beside o e s t) (at_pixel a b g Y) = let z : ◌≡◌ {A = ℕ} 0 1 = cc in absurd (omega arith)
   visit_same (at_pixel x y o X) (beside g f m n) = let z : ◌≡◌ {A = ℕ} 0 1 = cc in absurd (omega arith)
@@ -58,21 +57,21 @@ module _ {p : List ℕ} {w h lent : ℕ} {T : Table} {estimate : ℕ} (R : Roomy
 
 -- what is left of a search after a visit, by what the visit comes to
 module _ (w h estimate : ℕ) (s : Pass) (at : Point) (f : Finding (List Point)) (q : List ℕ) (U : Table) where
-  abbrev Left : Visit → List ℕ → Table → Type 0
-  Left Moves m B = Spirals w h estimate (next_pass s) (moved s at) m B f q U
-  Left Stays m B = Spirals w h estimate (next_pass s) at m B f q U
-  Left Here m B = Alike (found (at ∷ [])) m B f q U
-  Left (Refused why) m B = Alike (refused_by why) m B f q U
+  abbrev Left : Result Visit Refusal → List ℕ → Table → Type 0
+  Left (Ok Moves) m B = Spirals w h estimate (next_pass s) (moved s at) m B f q U
+  Left (Ok Stays) m B = Spirals w h estimate (next_pass s) at m B f q U
+  Left (Ok Here) m B = Alike (found (at ∷ [])) m B f q U
+  Left (Err why) m B = Alike (refused_by why) m B f q U
 
-  carried : {v u : Visit} {m n : List ℕ} {B C : Table} → Alike v m B u n C → Left v m B → Left u n C
+  carried : {v u : Result Visit Refusal} {m n : List ℕ} {B C : Table} → Alike v m B u n C → Left v m B → Left u n C
   carried {v} {u} {m} {n} {B} {C} e L =
-      let L1 : Left u m B = subst (λ (k : Visit). Left k m B) e.0 L in
+      let L1 : Left u m B = subst (λ (k : Result Visit Refusal). Left k m B) e.0 L in
       let L2 : Left u n B = subst (λ (k : List ℕ). Left u k B) e.1 L1 in
       subst (λ (k : Table). Left u n k) e.2 L2
 
 -- of any search after a visit, just that is left
 module _ {w h estimate : ℕ} {s : Pass} {at : Point} {p : List ℕ} {lent : ℕ} {T : Table} (R : Roomy w h (length p) lent) (P : Proper T w h) where
-  after_visit : {v : Visit} {m : List ℕ} {B : Table} {f : Finding (List Point)} {q : List ℕ} {U : Table}
+  after_visit : {v : Result Visit Refusal} {m : List ℕ} {B : Table} {f : Finding (List Point)} {q : List ℕ} {U : Table}
       → s.step * s.step < estimate * 100 → Visits p w h T estimate at v m B → Spirals w h estimate s at p T f q U → Left w h estimate s at f q U v m B
   after_visit low O (too_far far) = absurd (omega arith)
   after_visit {f = f} {q = q} {U = U} low O (moves l X S) = carried w h estimate s at f q U (visit_same R P X O) S
@@ -98,16 +97,16 @@ search_same R P (here low X) Y = after_visit R P low X Y
 search_same R P (stops low X) Y = after_visit R P low X Y
 
 -- an answer that means the same is the same
-meaning_only : (a b : Sighting) → meaning a ≡ meaning b → a ≡ b
-meaning_only (sighting.At p) (sighting.At q) e = cc
-meaning_only (sighting.At p) sighting.Nowhere e = let z : ◌≡◌ {A = ℕ} 0 1 = cc in absurd (omega arith)
-meaning_only (sighting.At p) (sighting.Refused v) e = let z : ◌≡◌ {A = ℕ} 0 1 = cc in absurd (omega arith)
-meaning_only sighting.Nowhere (sighting.At q) e = let z : ◌≡◌ {A = ℕ} 0 1 = cc in absurd (omega arith)
-meaning_only sighting.Nowhere sighting.Nowhere e = refl
-meaning_only sighting.Nowhere (sighting.Refused v) e = let z : ◌≡◌ {A = ℕ} 0 1 = cc in absurd (omega arith)
-meaning_only (sighting.Refused u) (sighting.At q) e = let z : ◌≡◌ {A = ℕ} 0 1 = cc in absurd (omega arith)
-meaning_only (sighting.Refused u) sighting.Nowhere e = let z : ◌≡◌ {A = ℕ} 0 1 = cc in absurd (omega arith)
-meaning_only (sighting.Refused u) (sighting.Refused v) e = ap sighting.Refused (refusal_only {a = u} {b = v} e)
+meaning_only : (a b : Result (Option Point) Refusal) → meaning a ≡ meaning b → a ≡ b
+meaning_only (Ok (Some p)) (Ok (Some q)) e = cc
+meaning_only (Ok (Some p)) (Ok None) e = let z : ◌≡◌ {A = ℕ} 0 1 = cc in absurd (omega arith)
+meaning_only (Ok (Some p)) (Err v) e = let z : ◌≡◌ {A = ℕ} 0 1 = cc in absurd (omega arith)
+meaning_only (Ok None) (Ok (Some q)) e = let z : ◌≡◌ {A = ℕ} 0 1 = cc in absurd (omega arith)
+meaning_only (Ok None) (Ok None) e = refl
+meaning_only (Ok None) (Err v) e = let z : ◌≡◌ {A = ℕ} 0 1 = cc in absurd (omega arith)
+meaning_only (Err u) (Ok (Some q)) e = let z : ◌≡◌ {A = ℕ} 0 1 = cc in absurd (omega arith)
+meaning_only (Err u) (Ok None) e = let z : ◌≡◌ {A = ℕ} 0 1 = cc in absurd (omega arith)
+meaning_only (Err u) (Err v) e = ap Err (refusal_only {a = u} {b = v} e)
 
 -- the answer, the table and the picture are determined
 pub search_determined : {w h estimate : ℕ} {seed : Point} {p : List ℕ} {lent : ℕ} {T : Table} {q r : List ℕ} (s t : Sought) → Roomy w h (length p) lent → Proper T w h

@@ -1,4 +1,5 @@
 -- A glide makes the passes of the search: each is a visit that leaves picture and table as they are. Assumes nothing.
+use Rattle.std.specs.Prelude.{Option, Some, None, Ok}
 use Prim.Native.Nat.{ℕ, ◌+◌, ◌-◌, ◌*◌, ◌≤◌, ◌<◌}
 use native.Mathlib.Decide.{ℕ_discrete, dec_le}
 use native.Mathlib.Nat.{le_refl}
@@ -25,8 +26,6 @@ use Rattle.alignment.specs.Visit.{place_of, visit_of, VisitsPixel, white, looked
 use Rattle.alignment.specs.Glide.{newest_of, passed_of, glance_of, glance_at, Glides, ends, halts, goes, waits}
 use Rattle.alignment.specs.Search.{Spirals, moves, stays}
 use Rattle.alignment.specs.declared.spiral.Pass.{Pass}
-use Rattle.alignment.specs.declared.visit.Place.{Place}
-use Rattle.alignment.specs.declared.visit.Place.TheVariants.{Pixel, Beside}
 use Rattle.alignment.specs.declared.visit.Visit.TheVariants as visit
 use Rattle.alignment.specs.declared.glide.Glance.{Glance}
 use Rattle.alignment.specs.declared.glide.Glance.TheVariants.{Moves, Stays, Unsure}
@@ -46,14 +45,14 @@ number_listed byte n k e low = rw (le-leb 5 byte (omega arith)) (lt-leb n (byte 
 
 module _ {p : List ℕ} {w h : ℕ} {T : Table} {estimate x y : ℕ} where
   -- at a claimed piece the pass stays
-  claimed_stays : 2 ≤ px p w x y → px p w x y ≤ 4 → VisitsPixel p w h T estimate x y visit.Stays p T
+  claimed_stays : 2 ≤ px p w x y → px p w x y ≤ 4 → VisitsPixel p w h T estimate x y (Ok visit.Stays) p T
   unfolding visit_of
   claimed_stays low high =
       looked (λ e. omega arith) (claimed_listed (px p w x y) T.n high) (claimed (colour_of (px p w x y)))
       (at_claimed (record { low = low; high = high; answer = refl; picture = refl; table = refl })) refl
 
   -- at the newest entry's piece, where that entry is of another size, the pass moves
-  passed_moves : most ≤ length T.age → Ordered T → PassedBy estimate T (px p w x y) → VisitsPixel p w h T estimate x y visit.Moves p T
+  passed_moves : most ≤ length T.age → Ordered T → PassedBy estimate T (px p w x y) → VisitsPixel p w h T estimate x y (Ok visit.Moves) p T
   passed_moves A O B =
       let k = newest_of T in
       let low = newest_below A O B.some in
@@ -64,13 +63,13 @@ module _ {p : List ℕ} {w h : ℕ} {T : Table} {estimate x y : ℕ} where
 -- what a glance tells of a visit
 module _ (p : List ℕ) (w h estimate : ℕ) (T : Table) (at : Point) where
   abbrev Settles : Glance → Type 0
-  Settles Moves = Visits p w h T estimate at visit.Moves p T
-  Settles Stays = Visits p w h T estimate at visit.Stays p T
+  Settles Moves = Visits p w h T estimate at (Ok visit.Moves) p T
+  Settles Stays = Visits p w h T estimate at (Ok visit.Stays) p T
   Settles Unsure = Unit {0}
 
 module _ (p : List ℕ) (w h estimate : ℕ) {T : Table} (A : most ≤ length T.age) (O : Ordered T) (at : Point) where
   -- a glance at a pixel is right
-  pixel_settles : (x y : ℕ) → place_of w h at ≡ Pixel x y → Settles p w h estimate T at (glance_of (passed_of estimate T) (px p w x y))
+  pixel_settles : (x y : ℕ) → place_of w h at ≡ Some (x, y) → Settles p w h estimate T at (glance_of (passed_of estimate T) (px p w x y))
   unfolding glance_of
   pixel_settles x y o =
       let byte = px p w x y in
@@ -86,10 +85,10 @@ module _ (p : List ℕ) (w h estimate : ℕ) {T : Table} (A : most ≤ length T.
       (λ m. rw (ne_eqb byte 0 dark, ne_eqb byte passed other, lt-leb 2 byte (omega arith)) tt)))
 
   -- a glance at a place is right, by where the place lies
-  place_settles : (o : Place) → place_of w h at ≡ o → Settles p w h estimate T at (glance_at p w (passed_of estimate T) o)
+  place_settles : (o : Option (ℕ × ℕ)) → place_of w h at ≡ o → Settles p w h estimate T at (glance_at p w (passed_of estimate T) o)
   unfolding glance_at
-  place_settles (Pixel x y) e = pixel_settles x y e
-  place_settles Beside e = beside e refl refl refl
+  place_settles (Some (x, y)) e = pixel_settles x y e
+  place_settles None e = beside e refl refl refl
 
   -- the same, by what the glance tells
   glance_settles : {g : Glance} → glance_at p w (passed_of estimate T) (place_of w h at) ≡ g → Settles p w h estimate T at g

@@ -1,4 +1,6 @@
 -- What the search leaves: the picture's length, a sound table, white what was white; and where it answers, a pixel that no claim has taken. Assumes nothing.
+use Rattle.std.specs.Prelude.{Result, Ok}
+use Rattle.refusals.specs.declared.Refusal.{Refusal}
 use Prim.Native.Nat.{ℕ, ◌≤◌, ◌<◌}
 use native.Mathlib.Nat.{le_refl}
 use native.Mathlib.Omega.{arith}
@@ -45,14 +47,14 @@ pub record Sighted (q : List ℕ) (w h : ℕ) (at : Point) : Type 0 where
   pub shows : 5 ≤ px q w x y
 
 -- a lookup that makes its place the answer shows a number there
-look_shows : {p : List ℕ} {w h : ℕ} {T : Table} (estimate : ℕ) {x y : ℕ} {a : Answer} {q : List ℕ} {U : Table} → x < w → y < h → Here ≡ visit_of estimate a → Looks p w h x y T a q U → 5 ≤ px q w x y
+look_shows : {p : List ℕ} {w h : ℕ} {T : Table} (estimate : ℕ) {x y : ℕ} {a : Answer} {q : List ℕ} {U : Table} → x < w → y < h → Ok Here ≡ visit_of estimate a → Looks p w h x y T a q U → 5 ≤ px q w x y
 unfolding visit_of
-look_shows estimate hx hy e (at_claimed C) = let s : Here ≡ Stays = e ∙ ap (visit_of estimate) C.answer in let z : ◌≡◌ {A = ℕ} 0 1 = cc in absurd (omega arith)
+look_shows estimate hx hy e (at_claimed C) = let s : Ok Here ≡ Ok Stays = e ∙ ap (visit_of estimate) C.answer in let z : ◌≡◌ {A = ℕ} 0 1 = cc in absurd (omega arith)
 look_shows {w = w} estimate {x = x} {y = y} hx hy e (at_known K) = omega (arith, ap (λ (v : List ℕ). px v w x y) K.picture, K.shows)
 look_shows estimate hx hy e (at_fresh F) = omega (arith, seed_shows hx hy F.paint)
 look_shows estimate hx hy e (at_again G) = omega (arith, seed_shows hx hy G.paint)
 
-visit_sights : {p : List ℕ} {w h : ℕ} {T : Table} {estimate : ℕ} {at : Point} {v : Visit} {q : List ℕ} {U : Table} → Here ≡ v → Visits p w h T estimate at v q U → Sighted q w h at
+visit_sights : {p : List ℕ} {w h : ℕ} {T : Table} {estimate : ℕ} {at : Point} {v : Result Visit Refusal} {q : List ℕ} {U : Table} → Ok Here ≡ v → Visits p w h T estimate at v q U → Sighted q w h at
 visit_sights g (beside o e s t) = let z : ◌≡◌ {A = ℕ} 0 1 = cc in absurd (omega arith)
 visit_sights g (at_pixel x y o (white z e s t)) = let z : ◌≡◌ {A = ℕ} 0 1 = cc in absurd (omega arith)
 visit_sights g (at_pixel x y o (not_listed d u e s t)) = let z : ◌≡◌ {A = ℕ} 0 1 = cc in absurd (omega arith)

@@ -1,4 +1,5 @@
 -- The search goes from pass to pass: what is ahead of it is still to be searched. Assumes nothing.
+use Rattle.std.specs.Prelude.{Result, Ok, Err}
 use Prim.Native.Nat.{ℕ, ◌*◌, ◌≤◌, ◌<◌}
 use native.Mathlib.Omega.{arith}
 use mathlib.Core.Path.{◌≡◌, refl, subst}
@@ -17,7 +18,7 @@ use Rattle.alignment.specs.Glide.{passed_of, Glides}
 use Rattle.alignment.specs.Search.{Spirals, too_far, moves, stays, here, stops}
 use Rattle.alignment.specs.declared.spiral.Pass.{Pass}
 use Rattle.alignment.specs.declared.visit.Visit.{Visit}
-use Rattle.alignment.specs.declared.visit.Visit.TheVariants.{Moves, Stays, Here, Refused}
+use Rattle.alignment.specs.declared.visit.Visit.TheVariants.{Moves, Stays, Here}
 use Rattle.alignment.proofs.Passes.{After, next_after, step_few, still_near, moved_near}
 use Rattle.alignment.proofs.Gliding.{glide_spirals, Reached, glide_reaches}
 use Rattle.alignment.proofs.Kept.{Kept, kept_on, kept_still}
@@ -73,21 +74,21 @@ module _ {p0 : List ℕ} {w h estimate : ℕ} {first : Pass} {from : Point} {T0 
       pub along_less : passes_left (next_pass s) < passes_left s
       along_less = after.less
 
-      module _ {v : Visit} {q : List ℕ} {U : Table} (X : Visits p w h T estimate at v q U) where
-        comes_to : {u : Visit} → v ≡ u → Visits p w h T estimate at u q U
-        comes_to e = subst (λ (u : Visit). Visits p w h T estimate at u q U) e X
+      module _ {v : Result Visit Refusal} {q : List ℕ} {U : Table} (X : Visits p w h T estimate at v q U) where
+        comes_to : {u : Result Visit Refusal} → v ≡ u → Visits p w h T estimate at u q U
+        comes_to e = subst (λ (u : Result Visit Refusal). Visits p w h T estimate at u q U) e X
 
-        pub along_here : v ≡ Here → Spirals w h estimate first from p0 T0 (found (at ∷ [])) q U
+        pub along_here : v ≡ Ok Here → Spirals w h estimate first from p0 T0 (found (at ∷ [])) q U
         along_here e = A.then _ _ _ (here low (comes_to e))
 
-        pub along_stops : (why : Refusal) → v ≡ Refused why → Spirals w h estimate first from p0 T0 (refused_by why) q U
+        pub along_stops : (why : Refusal) → v ≡ Err why → Spirals w h estimate first from p0 T0 (refused_by why) q U
         along_stops why e = A.then _ _ _ (stops low (comes_to e))
 
         module _ {room : ℕ} (more : lent ≤ room) where
           keeps : Kept p w h q U
           keeps = visit_keeps A.roomy A.kept.proper X
 
-          pub along_stays : v ≡ Stays → Along p0 w h estimate first from T0 q room (next_pass s) at U
+          pub along_stays : v ≡ Ok Stays → Along p0 w h estimate first from T0 q room (next_pass s) at U
           along_stays e =
               record {
                 few = A.few;
@@ -98,7 +99,7 @@ module _ {p0 : List ℕ} {w h estimate : ℕ} {first : Pass} {from : Point} {T0 
                 then = λ f r Z S. A.then f r Z (stays low (comes_to e) S);
               }
 
-          pub along_moves : v ≡ Moves → Along p0 w h estimate first from T0 q room (next_pass s) (moved s at) U
+          pub along_moves : v ≡ Ok Moves → Along p0 w h estimate first from T0 q room (next_pass s) (moved s at) U
           along_moves e =
               record {
                 few = A.few;

@@ -1,4 +1,6 @@
 -- What a visit keeps, and what it shows where it answers. Assumes nothing.
+use Rattle.std.specs.Prelude.{Result}
+use Rattle.refusals.specs.declared.Refusal.{Refusal}
 use Prim.Native.Nat.{ℕ, ◌<◌}
 use native.Mathlib.Omega.{arith}
 use mathlib.Core.Path.{◌≡◌}
@@ -34,7 +36,7 @@ module _ {p : List ℕ} {w h lent : ℕ} {T : Table} (R : Roomy w h (length p) l
         listed = λ k e. below (px p w x y) T.n k listed e;
       }
 
-  pub visit_keeps : {estimate : ℕ} {at : Point} {v : Visit} {q : List ℕ} {U : Table} → Visits p w h T estimate at v q U → Kept p w h q U
+  pub visit_keeps : {estimate : ℕ} {at : Point} {v : Result Visit Refusal} {q : List ℕ} {U : Table} → Visits p w h T estimate at v q U → Kept p w h q U
   visit_keeps (beside o e s t) = kept_still P s t
   visit_keeps (at_pixel x y o (white z e s t)) = kept_still P s t
   visit_keeps (at_pixel x y o (not_listed dark u e s t)) = kept_still P s t

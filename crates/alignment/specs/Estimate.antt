@@ -1,5 +1,6 @@
 -- The size that the alignment pattern is taken to have: document 01, refusals 13 and 12; the two corners and the area are taken from the Rust (`find_alignment_pattern`). Definitions alone.
-use Rattle.std.specs.Prelude.{ℕ, [], ◌∷◌, ltb, nat_abs, neg_ℤ, ◌+ℤ◌, ◌-ℤ◌, ◌*ℤ◌}
+use Rattle.std.specs.Prelude.{ℕ, [], ◌∷◌, ltb, nat_abs, neg_ℤ, ◌+ℤ◌, ◌-ℤ◌, ◌*ℤ◌, Result, Ok, Err}
+use Rattle.refusals.specs.declared.Refusal.{Refusal}
 use Rattle.refusals.specs.Limits.{farthest}
 use Rattle.refusals.specs.Finding.{Finding, found, refused, refused_by}
 use Rattle.refusals.specs.First.{Test, ◌when◌, first}
@@ -9,13 +10,11 @@ use Rattle.floats.specs.Float64.{◌⊕◌, one}
 use Rattle.geometry.specs.Unmap.{unmapped}
 use Rattle.geometry.specs.declared.Perspective.{Perspective}
 use Rattle.stated.specs.Stated.{stated_at}
-use Rattle.alignment.specs.declared.estimate.Estimate.{Estimate}
-use Rattle.alignment.specs.declared.estimate.Estimate.TheVariants.{Size, Refused}
 
 -- an answer in document 01's terms: a number of pixels, or a refusal's number
-abbrev pub meaning : Estimate → Finding ℕ
-meaning (Size n) = found n
-meaning (Refused why) = refused_by why
+abbrev pub meaning : Result ℕ Refusal → Finding ℕ
+meaning (Ok n) = found n
+meaning (Err why) = refused_by why
 
 -- the area of the parallelogram that the ways from the seed to a and to c span; the formula is the Rust's
 unfoldable pub area_of : Point → Point → Point → ℕ

@@ -1,5 +1,5 @@
 -- A glide of the spiral: the passes that the byte of their place settles, so that they leave picture and table as they are. Definitions alone.
-use Rattle.std.specs.Prelude.{ℕ, ◌+◌, ◌*◌, ◌≤◌, ◌<◌, ◌≡◌, cond, ◌&&◌, List, eqb, leb, get_or}
+use Rattle.std.specs.Prelude.{ℕ, ◌+◌, ◌*◌, ◌≤◌, ◌<◌, ◌≡◌, cond, ◌&&◌, List, eqb, leb, get_or, Option, Some, None}
 use Rattle.points.specs.declared.Point.{Point}
 use Rattle.pieces.specs.Picture.{px}
 use Rattle.table.specs.Table.{entry_of}
@@ -7,8 +7,6 @@ use Rattle.table.specs.declared.Table.{Table}
 use Rattle.alignment.specs.Spiral.{next_pass, moved}
 use Rattle.alignment.specs.Visit.{place_of, size_like}
 use Rattle.alignment.specs.declared.spiral.Pass.{Pass}
-use Rattle.alignment.specs.declared.visit.Place.{Place}
-use Rattle.alignment.specs.declared.visit.Place.TheVariants.{Pixel, Beside}
 use Rattle.alignment.specs.declared.glide.Glance.{Glance}
 use Rattle.alignment.specs.declared.glide.Glance.TheVariants.{Moves, Stays, Unsure}
 
@@ -25,9 +23,9 @@ unfoldable pub glance_of : ℕ → ℕ → Glance
 glance_of passed byte = cond (eqb byte 0) Moves (cond (eqb byte passed) Moves (cond (leb 2 byte && leb byte 4) Stays Unsure))
 
 -- the same for a place: beside the picture the pass moves
-unfoldable pub glance_at : List ℕ → ℕ → ℕ → Place → Glance
-glance_at p w passed (Pixel x y) = glance_of passed (px p w x y)
-glance_at p w passed Beside = Moves
+unfoldable pub glance_at : List ℕ → ℕ → ℕ → Option (ℕ × ℕ) → Glance
+glance_at p w passed (Some (x, y)) = glance_of passed (px p w x y)
+glance_at p w passed None = Moves
 
 -- a glide from a pass and a place to others: it ends where the leg is too long, halts where a glance does not settle the pass, and goes on else
 pub data Glides (p : List ℕ) (w h estimate passed : ℕ) : Pass → Point → Pass → Point → Type 0 where

@@ -9,14 +9,7 @@ use groups::side_of;
 use points::Point;
 use refusals::Refusal;
 use sizes::unsigned_abs;
-use stated::{Stated, state};
-
-// An estimate: how many pixels the alignment pattern has, or a refusal.
-#[derive(Clone, Copy)]
-pub enum Estimate {
-    Size(usize),
-    Refused(Refusal),
-}
+use stated::state;
 
 // The area of the parallelogram that the ways from the seed to a and to c span.
 fn area(seed: Point, a: Point, c: Point) -> usize
@@ -30,7 +23,7 @@ fn area(seed: Point, a: Point, c: Point) -> usize
 }
 
 // The estimate by two more corners of the pattern: 12 where it exceeds 10,000.
-fn estimate_by(seed: Point, a: Point, c: Point) -> Estimate
+fn estimate_by(seed: Point, a: Point, c: Point) -> Result<usize, Refusal>
     requires fact_1 { Near seed }
     requires fact_2 { Near a }
     requires fact_3 { Near c }
@@ -38,25 +31,19 @@ fn estimate_by(seed: Point, a: Point, c: Point) -> Estimate
 {
     let size = area(seed, a, c);
     if size > 10000 {
-        return Estimate::Refused(Refusal::Far);
+        return Err(Refusal::Far);
     }
-    Estimate::Size(size)
+    Ok(size)
 }
 
 // The estimate by the perspectives of the two stones whose lines meet at the seed: 13 and 12 corner by corner, then 12 for itself.
-pub fn size_estimate(c0: Perspective, c2: Perspective, seed: Point) -> Estimate
+pub fn size_estimate(c0: Perspective, c2: Perspective, seed: Point) -> Result<usize, Refusal>
     requires { Near seed }
     ensures { meaning result ≡ estimate_of c0 c2 seed }
 {
     let p = c0.unmap(seed);
-    let below = state(c0, p.u, p.v + 1.0);
+    let a = state(c0, p.u, p.v + 1.0)?;
     let q = c2.unmap(seed);
-    let beside = state(c2, q.u + 1.0, q.v);
-    match below {
-        Stated::Refused(why) => Estimate::Refused(why),
-        Stated::At(a) => match beside {
-            Stated::Refused(why) => Estimate::Refused(why),
-            Stated::At(c) => estimate_by(seed, a, c),
-        },
-    }
+    let c = state(c2, q.u + 1.0, q.v)?;
+    estimate_by(seed, a, c)
 }

@@ -9,7 +9,7 @@ ghost use Rattle.alignment.specs.Visit.{place_of};
 ghost use Rattle.alignment.specs.Glide.{passed_of, glance_of, glance_at, Glides};
 
 use crate::spiral::Pass;
-use crate::visit::{Place, is_size_like, place_at};
+use crate::visit::{is_size_like, place_at};
 use points::Point;
 use table::Table;
 
@@ -79,8 +79,8 @@ fn glance_at(pic: &[u8], width: usize, height: usize, at: Point, passed: u8) -> 
     ensures { result ≡ glance_at pic.now width passed (place_of width height at) }
 {
     match place_at(at.x, at.y, width, height) {
-        Place::Pixel(x, y) => glance_pixel(pic, width, x, y, passed),
-        Place::Beside => Glance::Moves,
+        Some((x, y)) => glance_pixel(pic, width, x, y, passed),
+        None => Glance::Moves,
     }
 }
 
@@ -100,6 +100,7 @@ pub fn glide(
     let limit = estimate * 100;
     let mut pass = first;
     let mut at = from;
+    // A loop with no counter: it goes from pass to pass, and what is seen at each decides whether it goes on.
     while pass.step * pass.step < limit {
         match glance_at(pic, width, height, at, passed) {
             Glance::Moves => {

@@ -8,8 +8,8 @@ mod search;
 mod spiral;
 mod visit;
 
-pub use estimate::{Estimate, size_estimate};
+pub use estimate::size_estimate;
 pub use pattern::leftmost;
-pub use search::{Sighting, Sought, find_alignment_pattern};
-pub use spiral::Pass;
-pub use visit::{Place, Visit};
+pub use search::{Sought, find_alignment_pattern};
+pub use spiral::{Direction, Pass};
+pub use visit::Visit;

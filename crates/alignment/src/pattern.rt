@@ -2,7 +2,7 @@
 ghost use Rattle.std.specs.Prelude.{length};
 ghost use Rattle.alignment.specs.Pattern.{Claimable, Aligns};
 
-use corners::{LeftMostFinder, fill_left_most};
+use corners::{LeftMostFinder, fill_and_find};
 use points::Point;
 use sizes::unsigned_abs;
 
@@ -21,7 +21,7 @@ pub fn leftmost(
     let x = unsigned_abs(at.x) as usize;
     let y = unsigned_abs(at.y) as usize;
     let finder = LeftMostFinder::new(hd, at);
-    let found = fill_left_most(pic, width, height, stack, x, y, 3, finder);
+    let found = fill_and_find(pic, width, height, stack, x, y, 3, finder);
     let best = found.best;
     best.place
 }

@@ -14,18 +14,10 @@ use points::Point;
 use refusals::Refusal;
 use table::Table;
 
-// What a search answers: the place of the alignment pattern, that there is none near the seed, or why it refuses.
-#[derive(Clone, Copy)]
-pub enum Sighting {
-    At(Point),
-    Nowhere,
-    Refused(Refusal),
-}
-
 // A search's answer, beside the table that its lookups leave.
 #[derive(Clone, Copy)]
 pub struct Sought {
-    pub place: Sighting,
+    pub place: Result<Option<Point>, Refusal>,
     pub table: Table,
 }
 
@@ -47,39 +39,40 @@ fn search_from(
     let mut pass = first;
     let mut at = from;
     let mut sofar = table;
+    // A loop with no counter: what the visit finds decides whether it goes on, and the glide how many passes further.
     while pass.step * pass.step < limit {
         let visited = visit_place(pic, width, height, stack, sofar, at, estimate);
         let visit = visited.visit;
         sofar = visited.table;
         let passed = passed_by(sofar, estimate);
         match visit {
-            Visit::Moves => {
+            Ok(Visit::Moves) => {
                 let to = pass.moved(at);
                 let on = glide(pic, width, height, pass.next(), to, estimate, passed);
                 pass = on.pass;
                 at = on.at;
             }
-            Visit::Stays => {
+            Ok(Visit::Stays) => {
                 let on = glide(pic, width, height, pass.next(), at, estimate, passed);
                 pass = on.pass;
                 at = on.at;
             }
-            Visit::Here => {
+            Ok(Visit::Here) => {
                 return Sought {
-                    place: Sighting::At(at),
+                    place: Ok(Some(at)),
                     table: sofar,
                 };
             }
-            Visit::Refused(why) => {
+            Err(why) => {
                 return Sought {
-                    place: Sighting::Refused(why),
+                    place: Err(why),
                     table: sofar,
                 };
             }
         }
     }
     Sought {
-        place: Sighting::Nowhere,
+        place: Ok(None),
         table: sofar,
     }
 }

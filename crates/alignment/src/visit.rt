@@ -11,48 +11,40 @@ use refusals::Refusal;
 use regions::{ColoredRegion, get_region, is_unlisted};
 use table::Table;
 
-// Where a point lies: at a pixel of the picture, by its column and line, or beside the picture.
-#[derive(Clone, Copy)]
-pub enum Place {
-    Pixel(usize, usize),
-    Beside,
-}
-
-// What a visit comes to: the pass moves on, it skips its move, the place is the answer, or there is a refusal.
+// What a visit comes to where nothing refuses: the pass moves on, it skips its move, or the place is the answer.
 #[derive(Clone, Copy)]
 pub enum Visit {
     Moves,
     Stays,
     Here,
-    Refused(Refusal),
 }
 
-// What a visit comes to, beside the table that it leaves.
+// What a visit comes to, or why it refuses, beside the table that it leaves.
 #[derive(Clone, Copy)]
 pub struct Visited {
-    pub visit: Visit,
+    pub visit: Result<Visit, Refusal>,
     pub table: Table,
 }
 
 // Where the coordinates (x, y) lie in a picture of these sides.
-pub fn place_at(x: i32, y: i32, width: usize, height: usize) -> Place
+pub fn place_at(x: i32, y: i32, width: usize, height: usize) -> Option<(usize, usize)>
     ensures { result ≡ place_at width height x y }
 {
     if x < 0 {
-        return Place::Beside;
+        return None;
     }
     if y < 0 {
-        return Place::Beside;
+        return None;
     }
     let column = x as usize;
     let line = y as usize;
     if column >= width {
-        return Place::Beside;
+        return None;
     }
     if line >= height {
-        return Place::Beside;
+        return None;
     }
-    Place::Pixel(column, line)
+    Some((column, line))
 }
 
 // Whether a count of pixels is of the estimate's size.
@@ -68,19 +60,18 @@ pub fn is_size_like(count: u32, estimate: usize) -> bool
 }
 
 // What a lookup's answer makes of a visit.
-fn visit_of(region: ColoredRegion, estimate: usize) -> Visit
+fn visit_of(region: Result<ColoredRegion, Refusal>, estimate: usize) -> Result<Visit, Refusal>
     requires { estimate ≤ farthest }
     ensures { Comes estimate (meaning region) result }
 {
-    match region {
-        ColoredRegion::Claimed(_) => Visit::Stays,
+    match region? {
+        ColoredRegion::Claimed(_) => Ok(Visit::Stays),
         ColoredRegion::Unclaimed(r) => {
             if is_size_like(r.entry.px, estimate) {
-                return Visit::Here;
+                return Ok(Visit::Here);
             }
-            Visit::Moves
+            Ok(Visit::Moves)
         }
-        ColoredRegion::Refused(why) => Visit::Refused(why),
     }
 }
 
@@ -102,13 +93,13 @@ fn visit_pixel(
     let byte = pic[base + x];
     if byte == 0 {
         return Visited {
-            visit: Visit::Moves,
+            visit: Ok(Visit::Moves),
             table: table,
         };
     }
     if is_unlisted(byte, table.n) {
         return Visited {
-            visit: Visit::Refused(Refusal::Number),
+            visit: Err(Refusal::Number),
             table: table,
         };
     }
@@ -135,9 +126,9 @@ pub fn visit_place(
     ensures { Visits pic.old width height table estimate at result.visit pic.new result.table }
 {
     match place_at(at.x, at.y, width, height) {
-        Place::Pixel(x, y) => visit_pixel(pic, width, height, stack, table, x, y, estimate),
-        Place::Beside => Visited {
-            visit: Visit::Moves,
+        Some((x, y)) => visit_pixel(pic, width, height, stack, table, x, y, estimate),
+        None => Visited {
+            visit: Ok(Visit::Moves),
             table: table,
         },
     }

@@ -2,7 +2,6 @@
 #![tactic(auto)]
 
 use bounds::Grid;
-use picture::Verdict;
 
 mod all;
 mod held;
@@ -10,10 +9,9 @@ mod held;
 pub use all::bound_all;
 pub use held::blanks;
 
-// Grids with their bounds, which are the first n of the array, or why they are refused. Every other place of the array is blank.
+// Grids with their bounds, which are the first n of the array. Every other place of the array is blank.
 #[derive(Clone, Copy)]
 pub struct Grids {
     pub all: [Grid; 31],
     pub n: usize,
-    pub verdict: Verdict,
 }

@@ -1,4 +1,6 @@
 -- A perspective that places one point of the grid has no NaN: a NaN passes through every step of `map`. Assumes nothing.
+use Rattle.std.specs.Prelude.{Option, Some, None}
+use lib.IntN.{ℤ}
 use Prim.Native.Nat.{ℕ}
 use native.Mathlib.Omega.{arith}
 use mathlib.Core.Path.{◌≡◌, refl}
@@ -9,8 +11,6 @@ use Rattle.refusals.specs.declared.Refusal.TheVariants as refusal
 use Rattle.floats.specs.Float64.{◌⊕◌, ◌⊗◌, ◌⊘◌, one}
 use Rattle.points.specs.declared.Point.{Point}
 use Rattle.rounding.specs.Nearest.{nearest_of}
-use Rattle.rounding.specs.declared.Whole.{Whole}
-use Rattle.rounding.specs.declared.Whole.TheVariants.{At, Off}
 use Rattle.geometry.specs.Map.{placed, map_den, map_x, map_y, mapped}
 use Rattle.geometry.specs.declared.Perspective.{Perspective}
 use Rattle.bounds.specs.Numbers.{Numbers}
@@ -49,9 +49,9 @@ by_y : (c : Perspective) (u v : Float) → map_y c u v ≡ nan → mapped c u v 
 unfolding mapped nearest_of placed
 by_y c u v e = rw e (go (nearest_of (map_x c u v)))
   where
-    go : (x : Whole) → placed x Off ≡ refused_by refusal.Unplaced
-    go (At a) = refl
-    go Off = refl
+    go : (x : Option ℤ) → placed x None ≡ refused_by refusal.Unplaced
+    go (Some a) = refl
+    go None = refl
 
 module _ (c : Perspective) (u v : Float) where
   by_den : map_den c u v ≡ nan → mapped c u v ≡ refused_by refusal.Unplaced

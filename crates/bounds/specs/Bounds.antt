@@ -1,5 +1,5 @@
 -- A grid's bounds, taken from the Rust, `detect_grids`; document 01: bounds "only meet 13". Definitions alone.
-use Rattle.std.specs.Prelude.{ℕ, false, pos, Float}
+use Rattle.std.specs.Prelude.{ℕ, false, pos, Float, Option, Some, None}
 use Rattle.std.specs.Float.{fin}
 use Rattle.refusals.specs.Finding.{Finding, found, refused, refused_by}
 use Rattle.refusals.specs.declared.Refusal.TheVariants as refusal
@@ -8,13 +8,11 @@ use Rattle.points.specs.declared.Point.{Point}
 use Rattle.geometry.specs.Map.{mapped}
 use Rattle.grids.specs.declared.SkewedGridLocation.{SkewedGridLocation}
 use Rattle.bounds.specs.declared.Grid.{Grid}
-use Rattle.bounds.specs.declared.Bounded.{Bounded}
-use Rattle.bounds.specs.declared.Bounded.TheVariants as bounded
 
 -- an answer in document 01's terms: a grid with its bounds, or 13
-abbrev pub meaning : Bounded → Finding Grid
-meaning (bounded.Grid g) = found g
-meaning bounded.Unplaced = refused_by refusal.Unplaced
+abbrev pub meaning : Option Grid → Finding Grid
+meaning (Some g) = found g
+meaning None = refused_by refusal.Unplaced
 
 -- a located grid with four bounds; where one of them is refused, so is the grid
 unfoldable pub with_bounds : SkewedGridLocation → Finding Point → Finding Point → Finding Point → Finding Point → Finding Grid

@@ -5,7 +5,7 @@ ghost use Rattle.std.specs.Prelude.{◌≡◌};
 ghost use Rattle.geometry.specs.Map as map;
 ghost use Rattle.bounds.specs.Bounds.{meaning, with_bounds, bounded_of};
 
-use geometry::{Perspective, Spot};
+use geometry::Perspective;
 use grids::SkewedGridLocation;
 use points::Point;
 
@@ -20,43 +20,30 @@ pub struct Grid {
     pub bound3: Point,
 }
 
-// A located grid with its bounds, or refusal 13, where one of them lies nowhere.
-#[derive(Clone, Copy)]
-pub enum Bounded {
-    Grid(Grid),
-    Unplaced,
-}
-
 // The grid with these bounds, if all four are placed.
-fn with_bounds(location: SkewedGridLocation, b0: Spot, b1: Spot, b2: Spot, b3: Spot) -> Bounded
+fn with_bounds(
+    location: SkewedGridLocation,
+    b0: Option<Point>,
+    b1: Option<Point>,
+    b2: Option<Point>,
+    b3: Option<Point>,
+) -> Option<Grid>
     ensures { meaning result ≡ with_bounds location (map.meaning b0) (map.meaning b1) (map.meaning b2) (map.meaning b3) }
 {
     let size = location.size;
     let c = location.c;
-    match b0 {
-        Spot::Placed(p0) => match b1 {
-            Spot::Placed(p1) => match b2 {
-                Spot::Placed(p2) => match b3 {
-                    Spot::Placed(p3) => Bounded::Grid(Grid {
-                        size: size,
-                        c: c,
-                        bound0: p0,
-                        bound1: p1,
-                        bound2: p2,
-                        bound3: p3,
-                    }),
-                    Spot::Unplaced => Bounded::Unplaced,
-                },
-                Spot::Unplaced => Bounded::Unplaced,
-            },
-            Spot::Unplaced => Bounded::Unplaced,
-        },
-        Spot::Unplaced => Bounded::Unplaced,
-    }
+    Some(Grid {
+        size: size,
+        c: c,
+        bound0: b0?,
+        bound1: b1?,
+        bound2: b2?,
+        bound3: b3?,
+    })
 }
 
 // A located grid with its bounds.
-pub fn bounds_of(location: SkewedGridLocation) -> Bounded
+pub fn bounds_of(location: SkewedGridLocation) -> Option<Grid>
     ensures { meaning result ≡ bounded_of location }
 {
     let c = location.c;

@@ -1,7 +1,7 @@
 // Capstones: the locator patterns of a symbol (detect.rs).
 #![tactic(auto)]
 
-ghost use Rattle.std.specs.Prelude.{◌≡◌};
+ghost use Rattle.std.specs.Prelude.{◌≡◌, replicate};
 ghost use Rattle.capstones.specs.Blank.{no_stone};
 
 use geometry::Perspective;
@@ -41,4 +41,12 @@ pub fn blank() -> CapStone
             c7: nan,
         },
     }
+}
+
+// An array of blank stones.
+pub fn blanks() -> [CapStone; 64]
+    ensures { result ≡ replicate 64 no_stone }
+{
+    let none = blank();
+    [none; 64]
 }

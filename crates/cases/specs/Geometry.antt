@@ -1,5 +1,5 @@
 -- Document 01's examples of geometry. Assumes nothing.
-use Rattle.std.specs.Prelude.{List, [], ◌∷◌, true, false, ℤ, pos, negsuc, Float}
+use Rattle.std.specs.Prelude.{List, [], ◌∷◌, true, false, ℤ, pos, negsuc, Float, Some}
 use Rattle.std.specs.Float.{fin}
 use Rattle.refusals.specs.Finding.{found}
 use Rattle.points.specs.declared.Point.{Point}
@@ -8,7 +8,6 @@ use Rattle.geometry.specs.Map.{mapped}
 use Rattle.geometry.specs.declared.Perspective.{Perspective}
 use Rattle.geometry.specs.declared.Sight.TheVariants.{Made, Flat}
 use Rattle.lines.specs.Meet.{meet_of}
-use Rattle.lines.specs.declared.Meet.TheVariants.{At}
 use Rattle.scans.specs.Scan.{scan_of}
 use Rattle.scans.specs.Points.{points}
 use Rattle.cases.specs.Case.{Case, ◌answers◌}
@@ -45,7 +44,7 @@ geometry =
     ∷ (sight_of (at (pos 10) (pos 10)) (at (pos 10) (pos 17)) (at (pos 17) (pos 17)) (at (pos 17) (pos 10)) seven seven
     answers Flat)
     -- (0,0)-(1,1) meets (0,1)-(1,0) at (0,0)
-    ∷ (meet_of (at (pos 0) (pos 0)) (at (pos 1) (pos 1)) (at (pos 0) (pos 1)) (at (pos 1) (pos 0)) answers At (at (pos 0) (pos 0)))
+    ∷ (meet_of (at (pos 0) (pos 0)) (at (pos 1) (pos 1)) (at (pos 0) (pos 1)) (at (pos 1) (pos 0)) answers Some (at (pos 0) (pos 0)))
     -- scan (0,0) to (3,1): (0,0) (1,0) (2,1) (3,1)
     ∷ (points (scan_of (at (pos 0) (pos 0)) (at (pos 3) (pos 1)))
     answers (at (pos 0) (pos 0) ∷ at (pos 1) (pos 0) ∷ at (pos 2) (pos 1) ∷ at (pos 3) (pos 1) ∷ []))

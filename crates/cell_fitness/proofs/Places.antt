@@ -1,4 +1,5 @@
 -- Which place along a side a float rounds to, by what tests say of it. Assumes nothing.
+use Rattle.std.specs.Prelude.{Option, Some}
 use Prim.Native.Nat.{ℕ, zero, suc, ◌+◌, ◌*◌, ◌^◌, ◌≤◌, ◌<◌, zero-le}
 use native.Mathlib.Omega.{arith}
 use mathlib.Core.Path.{◌≡◌, sym}
@@ -9,8 +10,6 @@ use lib.Ieee.{Float, nan, inf, fin, up, down, lt}
 use lib.Ieee.Fits.{down_pos}
 use borrow.Author.Tests.{ltb-true, ltb-false, le-ltb}
 use Rattle.rounding.specs.Nearest.{NearestTo, half_up, held, nearest_of}
-use Rattle.rounding.specs.declared.Whole.{Whole}
-use Rattle.rounding.specs.declared.Whole.TheVariants.{At}
 use Rattle.rounding.proofs.Only.{half_up_only, nearest_at}
 use Rattle.cell_fitness.specs.Along.{along}
 
@@ -21,14 +20,14 @@ abbrev minus_half : Float
 minus_half = fin true 1 (negsuc 0)
 
 -- above 0 no coordinate is below 0
-pub not_below : (x : Float) (z : ℤ) → lt nought x ≡ true → nearest_of x ≡ At z → lt_z z (pos 0) ≡ false
+pub not_below : (x : Float) (z : ℤ) → lt nought x ≡ true → nearest_of x ≡ Some z → lt_z z (pos 0) ≡ false
 unfolding lt
 not_below nan z p e = absurd (true≢false (sym p))
 not_below (inf s) z p e = absurd (nearest_at (inf s) z e).0
 not_below (fin true m x) z p e = absurd (true≢false (sym p))
 not_below (fin false m x) z p e = let r = (nearest_at (fin false m x) z e).0 in rw r.2 (le-ltb r.0 0 zero-le)
 
-pub along_it : (w : Whole) (n : ℕ) (z : ℤ) → w ≡ At z → pos n ≡ z → n ≡ along w
+pub along_it : (w : Option ℤ) (n : ℕ) (z : ℤ) → w ≡ Some z → pos n ≡ z → n ≡ along w
 unfolding along
 along_it w n z e h = rw (e, ← h)
 
@@ -50,12 +49,12 @@ first_place (fin true m x) p q =
     rw (less_than_half (m * up x) (down x) (omega arith))
 
 -- from -1/2 down a coordinate is below 0
-below_zero : (a b n : ℕ) (z : ℤ) → b ≤ 2 * a → NearestTo a b n → z ≡ neg_ℤ (pos n) → 2 ^ 31 ≡ along (At z)
+below_zero : (a b n : ℕ) (z : ℤ) → b ≤ 2 * a → NearestTo a b n → z ≡ neg_ℤ (pos n) → 2 ^ 31 ≡ along (Some z)
 unfolding along
 below_zero a b zero z h near e = let k = near.not_below in let z : ⊥ = omega arith in absurd z
 below_zero a b (suc n) z h near e = rw e
 
-pub place_before : (x : Float) (z : ℤ) → lt minus_half x ≡ false → nearest_of x ≡ At z → 2 ^ 31 ≡ along (At z)
+pub place_before : (x : Float) (z : ℤ) → lt minus_half x ≡ false → nearest_of x ≡ Some z → 2 ^ 31 ≡ along (Some z)
 unfolding lt
 place_before nan z p e = absurd (nearest_at nan z e).0
 place_before (inf s) z p e = absurd (nearest_at (inf s) z e).0
@@ -70,5 +69,5 @@ place_before (fin true m x) z p e =
     below_zero (m * up x) (down x) r.0 z (omega arith) r.1 r.2
 
 -- a coordinate is an `i32`
-pub few : (x : Float) (n : ℕ) → nearest_of x ≡ At (pos n) → n < 2 ^ 31
+pub few : (x : Float) (n : ℕ) → nearest_of x ≡ Some (pos n) → n < 2 ^ 31
 few x n e = (nearest_at x (pos n) e).1.sfits

@@ -1,4 +1,5 @@
 -- What `seen_at` says beside the picture and inside, and that `point_of` and `line_of` are what is shown where their points lie. Assumes nothing.
+use Rattle.std.specs.Prelude.{Option, Some, None}
 use Prim.Native.Nat.{ℕ, ◌+◌, ◌^◌, ◌≤◌, ◌<◌}
 use native.Mathlib.Omega.{arith}
 use mathlib.Core.Path.{◌≡◌, refl, ◌∙◌}
@@ -12,8 +13,6 @@ use Rattle.refusals.specs.Finding.{Finding, found, refused_by}
 use Rattle.refusals.specs.declared.Refusal.TheVariants as refusal
 use Rattle.refusals.specs.Limits.{longest_side}
 use Rattle.rounding.specs.Nearest.{nearest_of}
-use Rattle.rounding.specs.declared.Whole.{Whole}
-use Rattle.rounding.specs.declared.Whole.TheVariants.{At, Off}
 use Rattle.geometry.specs.Map.{placed, map_x, map_y, mapped}
 use Rattle.geometry.specs.declared.Perspective.{Perspective}
 use Rattle.cell_fitness.specs.Seen.{dark_at, dark_in, point_of, line_of}
@@ -62,15 +61,15 @@ module _ (pic : List ℕ) (width height : ℕ) where
 
   module _ (wide : width ≤ longest_side) (tall : height ≤ longest_side) where
     -- what two rounded coordinates show is what is seen at their places
-    seen_in_lem : (p q : Whole) → ((n : ℕ) → p ≡ At (pos n) → n < 2 ^ 31) → ((n : ℕ) → q ≡ At (pos n) → n < 2 ^ 31) → dark_in pic width height (placed p q) ≡ seen_at pic width height (along p) (along q)
+    seen_in_lem : (p q : Option ℤ) → ((n : ℕ) → p ≡ Some (pos n) → n < 2 ^ 31) → ((n : ℕ) → q ≡ Some (pos n) → n < 2 ^ 31) → dark_in pic width height (placed p q) ≡ seen_at pic width height (along p) (along q)
     unfolding dark_in placed dark_at along
-    seen_in_lem (At (pos a)) (At (pos b)) f g = seen_both a b (f a refl) (g b refl)
-    seen_in_lem (At (pos a)) (At (negsuc b)) f g = let h = f a refl in beside_it a (2 ^ 31) (omega arith) (omega arith) ∙ seen_below a (2 ^ 31) (omega arith)
-    seen_in_lem (At (pos a)) Off f g = let h = f a refl in nowhere_down a (2 ^ 31 + 1) (omega arith) (omega arith) ∙ seen_below a (2 ^ 31 + 1) (omega arith)
-    seen_in_lem (At (negsuc a)) (At (pos b)) f g = let h = g b refl in beside_it (2 ^ 31) b (omega arith) (omega arith) ∙ seen_behind (2 ^ 31) b (omega arith)
-    seen_in_lem (At (negsuc a)) (At (negsuc b)) f g = beside_it (2 ^ 31) (2 ^ 31) (omega arith) (omega arith) ∙ seen_behind (2 ^ 31) (2 ^ 31) (omega arith)
-    seen_in_lem (At (negsuc a)) Off f g = nowhere_down (2 ^ 31) (2 ^ 31 + 1) (omega arith) (omega arith) ∙ seen_behind (2 ^ 31) (2 ^ 31 + 1) (omega arith)
-    seen_in_lem Off q f g = nowhere_across (2 ^ 31 + 1) (along q) (omega arith) ∙ seen_behind (2 ^ 31 + 1) (along q) (omega arith)
+    seen_in_lem (Some (pos a)) (Some (pos b)) f g = seen_both a b (f a refl) (g b refl)
+    seen_in_lem (Some (pos a)) (Some (negsuc b)) f g = let h = f a refl in beside_it a (2 ^ 31) (omega arith) (omega arith) ∙ seen_below a (2 ^ 31) (omega arith)
+    seen_in_lem (Some (pos a)) None f g = let h = f a refl in nowhere_down a (2 ^ 31 + 1) (omega arith) (omega arith) ∙ seen_below a (2 ^ 31 + 1) (omega arith)
+    seen_in_lem (Some (negsuc a)) (Some (pos b)) f g = let h = g b refl in beside_it (2 ^ 31) b (omega arith) (omega arith) ∙ seen_behind (2 ^ 31) b (omega arith)
+    seen_in_lem (Some (negsuc a)) (Some (negsuc b)) f g = beside_it (2 ^ 31) (2 ^ 31) (omega arith) (omega arith) ∙ seen_behind (2 ^ 31) (2 ^ 31) (omega arith)
+    seen_in_lem (Some (negsuc a)) None f g = nowhere_down (2 ^ 31) (2 ^ 31 + 1) (omega arith) (omega arith) ∙ seen_behind (2 ^ 31) (2 ^ 31 + 1) (omega arith)
+    seen_in_lem None q f g = nowhere_across (2 ^ 31 + 1) (along q) (omega arith) ∙ seen_behind (2 ^ 31 + 1) (along q) (omega arith)
 
     -- what is shown where a point of the grid lies is that point
     pub point_landed : (c : Perspective) (u v : Float) → point_of pic width height c u v ≡ point_at pic width height (landed c u v)

@@ -1,17 +1,15 @@
 -- A rounded coordinate as a place along a side of the picture, written as one number, and what the picture shows at two of them. Definitions alone.
-use Rattle.std.specs.Prelude.{ℕ, ◌+◌, ◌^◌, ◌&&◌, ◌||◌, cond, List, ltb, ℤ, pos, negsuc}
+use Rattle.std.specs.Prelude.{ℕ, ◌+◌, ◌^◌, ◌&&◌, ◌||◌, cond, List, ltb, ℤ, pos, negsuc, Option, Some, None}
 use Rattle.refusals.specs.Finding.{Finding, found, refused_by}
 use Rattle.refusals.specs.declared.Refusal.TheVariants as refusal
-use Rattle.rounding.specs.declared.Whole.{Whole}
-use Rattle.rounding.specs.declared.Whole.TheVariants.{At, Off}
 use Rattle.pieces.specs.Picture.{px}
 use Rattle.cell_fitness.specs.Seen.{darkness}
 
 -- the coordinate itself where it is not below 0; beside every picture where it is, and one further where it is none
-unfoldable pub along : Whole → ℕ
-along (At (pos n)) = n
-along (At (negsuc n)) = 2 ^ 31
-along Off = 2 ^ 31 + 1
+unfoldable pub along : Option ℤ → ℕ
+along (Some (pos n)) = n
+along (Some (negsuc n)) = 2 ^ 31
+along None = 2 ^ 31 + 1
 
 -- two places of which no pixel has both: that counts 0, and 13 where either is no coordinate
 unfoldable pub beside_at : ℕ → ℕ → Finding ℤ

@@ -13,7 +13,6 @@ ghost use Rattle.cell_fitness.specs.Scores.{Scores};
 
 use crate::Fitness;
 use geometry::Perspective;
-use rounding::Whole;
 
 // Where a point lies in the picture, before its coordinates are rounded.
 #[derive(Clone, Copy)]
@@ -44,8 +43,8 @@ fn ahead(q: f64) -> usize
     ensures { result ≡ along (nearest_of q) }
 {
     match rounding::nearest(q) {
-        Whole::At(i) => from_zero(i),
-        Whole::Off => 2147483649,
+        Some(i) => from_zero(i),
+        None => 2147483649,
     }
 }
 
@@ -55,8 +54,8 @@ fn behind(q: f64) -> usize
     ensures { result ≡ along (nearest_of q) }
 {
     match rounding::nearest(q) {
-        Whole::At(i) => 2147483648,
-        Whole::Off => 2147483649,
+        Some(i) => 2147483648,
+        None => 2147483649,
     }
 }
 
@@ -110,7 +109,7 @@ fn den_at(c: Perspective, u: f64, v: f64) -> f64
     c.c6 * u + c.c7 * v + 1.0
 }
 
-// How far to the right the point lies, before that is rounded.
+// How far to the right the point lies, before that is rounded. Across and down apart, so that each reads as the formula of its coordinate.
 fn across(c: Perspective, u: f64, v: f64) -> f64
     ensures { result ≡ map_x c u v }
 {

@@ -1,5 +1,6 @@
 -- Reading one cell of a grid: document 01, "read a cell 1, 2, 16, 13". Assumes nothing.
-use Rattle.std.specs.Prelude.{ℕ, Bool, true, false, not, ◌&&◌, List, [], ◌∷◌, eqb, ltb, pos, negsuc, Float, length}
+use Rattle.std.specs.Prelude.{ℕ, Bool, true, false, not, ◌&&◌, List, [], ◌∷◌, eqb, ltb, pos, negsuc, Float, length, Result, Ok, Err}
+use Rattle.refusals.specs.declared.Refusal.{Refusal}
 use Rattle.std.specs.Float.{fin}
 use Rattle.refusals.specs.Finding.{Finding, found, refused, refused_by}
 use Rattle.refusals.specs.First.{Test, ◌when◌, first}
@@ -11,13 +12,13 @@ use Rattle.geometry.specs.Map.{mapped}
 use Rattle.geometry.specs.declared.Perspective.{Perspective}
 use Rattle.pixels.specs.Nearest.{shown_at}
 use Rattle.cells.specs.declared.Cell.{Cell}
-use Rattle.cells.specs.declared.Cell.TheVariants.{Dark, Light, Refused}
+use Rattle.cells.specs.declared.Cell.TheVariants.{Dark, Light}
 
 -- an answer in document 01's terms: whether the cell is dark, or a refusal's number
-abbrev pub meaning : Cell → Finding Bool
-meaning Dark = found true
-meaning Light = found false
-meaning (Refused r) = refused_by r
+abbrev pub meaning : Result Cell Refusal → Finding Bool
+meaning (Ok Dark) = found true
+meaning (Ok Light) = found false
+meaning (Err r) = refused_by r
 
 -- 16: a cell coordinate is at or above the grid size
 abbrev pub index_test : ℕ → ℕ → ℕ → Test

@@ -40,7 +40,7 @@ pub fn with(mut p: Perspective, j: usize, c: f64) -> Perspective
     p
 }
 
-// The perspective p with its coefficient j a step higher.
+// The perspective p with its coefficient j a step higher. Higher and lower apart, as a pass tries them: each is one line over `with`.
 pub fn raise(p: Perspective, j: usize, step: f64) -> Perspective
     ensures { result ≡ raised p j step }
 {

@@ -1,5 +1,6 @@
 -- What a claim promises: of its answer and of the picture, for every input.
-use Rattle.std.specs.Prelude.{ℕ, ◌≡◌, List}
+use Rattle.std.specs.Prelude.{ℕ, ◌≡◌, List, Result, Ok, Err}
+use Rattle.refusals.specs.declared.Refusal.{Refusal}
 use Rattle.refusals.specs.Finding.{Finding, found, refused, refused_by}
 use Rattle.refusals.specs.First.{first, sound}
 use Rattle.pieces.specs.Piece.{Piece, Pixels}
@@ -8,13 +9,11 @@ use Rattle.pieces.specs.Pairs.{Pushes}
 use Rattle.pieces.specs.Paint.{Paints}
 use Rattle.fill.specs.declared.paint.Counts.{Counts}
 use Rattle.claim.specs.Tests.{claim_tests}
-use Rattle.claim.specs.declared.Claimed.{Claimed}
-use Rattle.claim.specs.declared.Claimed.TheVariants.{Done, Refused}
 
 -- the counts, or a refusal by its number
-abbrev pub claimed : Claimed → Finding Counts
-claimed (Done counts) = found counts
-claimed (Refused why) = refused_by why
+abbrev pub claimed : Result Counts Refusal → Finding Counts
+claimed (Ok counts) = found counts
+claimed (Err why) = refused_by why
 
 -- an accepted claim of the piece of (x, y): its pixels show the target and every other pixel is as it was; and the counts are of its rows, its pixels and its pushes
 pub record ClaimsPiece (pic : List ℕ) (width height x y target : ℕ) (pic' : List ℕ) (counts : Counts) : Type 0 where

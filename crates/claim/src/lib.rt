@@ -8,15 +8,8 @@ ghost use Rattle.claim.specs.Tests.{claimable, paint_tests, claim_tests};
 ghost use Rattle.claim.specs.Outcome.{Outcome, claimed};
 
 use fill::paint::{Counts, paint_and_count};
-use picture::{Verdict, seeded};
+use picture::seeded;
 use refusals::Refusal;
-
-// What a claim answers: rows met, pixels painted and entries pushed, or why it is refused.
-#[derive(Clone, Copy)]
-pub enum Claimed {
-    Done(Counts),
-    Refused(Refusal),
-}
 
 // Whether a claim may paint with this byte.
 fn is_target(target: u8) -> bool
@@ -29,20 +22,20 @@ fn is_target(target: u8) -> bool
 }
 
 // Whether a seed that shows this byte can be painted with the target: 8, 6, 7.
-fn paintable(byte: u8, target: u8) -> Verdict
+fn paintable(byte: u8, target: u8) -> Result<(), Refusal>
     ensures { judged result ≡ first (paint_tests byte target) sound }
 {
     let known = is_target(target);
     if !known {
-        return Verdict::Refused(Refusal::Target);
+        return Err(Refusal::Target);
     }
     if byte == 0 {
-        return Verdict::Refused(Refusal::White);
+        return Err(Refusal::White);
     }
     if byte == target {
-        return Verdict::Refused(Refusal::Same);
+        return Err(Refusal::Same);
     }
-    Verdict::Sound
+    Ok(())
 }
 
 // All tests before a claim: 1, 2, 3, 5, 8, 6, 7.
@@ -54,16 +47,12 @@ pub fn judge(
     x: usize,
     y: usize,
     target: u8,
-) -> Verdict
+) -> Result<(), Refusal>
     ensures { judged result ≡ first (claim_tests pic.now width height lent x y target) sound }
 {
-    match seeded(width, height, pic.len(), lent, x, y) {
-        Verdict::Refused(why) => Verdict::Refused(why),
-        Verdict::Sound => {
-            let line = y * width;
-            paintable(pic[line + x], target)
-        }
-    }
+    seeded(width, height, pic.len(), lent, x, y)?;
+    let line = y * width;
+    paintable(pic[line + x], target)
 }
 
 // Claims the piece of (x, y): paints it with the target, over a stack that the caller lends, and answers its counts.
@@ -75,11 +64,9 @@ pub fn claim(
     x: usize,
     y: usize,
     target: u8,
-) -> Claimed
+) -> Result<Counts, Refusal>
     ensures { Outcome pic.old width height (length stack.old) x y target pic.new (claimed result) }
 {
-    match judge(pic, width, height, stack.len(), x, y, target) {
-        Verdict::Refused(why) => Claimed::Refused(why),
-        Verdict::Sound => Claimed::Done(paint_and_count(pic, width, height, stack, x, y, target)),
-    }
+    judge(pic, width, height, stack.len(), x, y, target)?;
+    Ok(paint_and_count(pic, width, height, stack, x, y, target))
 }

@@ -1,4 +1,4 @@
--- What the three fills find in their piece: a pixel of it, and none lies farther. Assumes nothing.
+-- What each finder finds in a piece: a pixel of it, and none lies farther. Assumes nothing.
 use Prim.Native.Nat.{ℕ}
 use native.Mathlib.Omega.{arith}
 use mathlib.Core.Path.{◌≡◌, refl, sym, subst}

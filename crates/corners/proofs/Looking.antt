@@ -41,14 +41,14 @@ module _ {A : Type 0} {Ready : A → Type 0} {g : A → Row → A} {z : A} {T : 
   module _ (some : 0 < sp) {p' s' : List ℕ} {a : Stepped} (D : Steps T.w T.h from T.t p s sp p' s' a) where
     -- it met the row r
     module _ {r : Row} {sp' : ℕ} (e : a ≡ Met r sp') where
-      -- which is one of the picture, so the finder may be shown it
-      pub looking_row : length p' ≡ length p → length s' ≡ length s → Ready found × Drawn r
+      -- which is one of the picture
+      pub looking_row : length p' ≡ length p → length s' ≡ length s → Drawn r
       looking_row len-p len-s =
           let Q = (filling_underway (filling_step L.folding.filling some (steps_as e D) len-p len-s)).rows_of r (inl refl) in
           let left = last_of (Q.all r.left (omega arith) Q.order) in
           let right = last_of (Q.all r.right Q.order (omega arith)) in
           let S = L.sides in
-          (L.ready, record { left_low = omega (arith, left.0); right_low = omega (arith, right.0); y_low = omega (arith, left.1) })
+          record { left_low = omega (arith, left.0); right_low = omega (arith, right.0); y_low = omega (arith, left.1) }
 
       pub looking_met : ((f : A) (row : Row) → Ready f → Ready (g f row)) → length p' ≡ length p → length s' ≡ length s → {found' : A} → found' ≡ g found r → Looking Ready g z T room from p' s' sp' found'
       looking_met keeps len-p len-s q =

@@ -1,7 +1,8 @@
--- What each fill that looks for corners knows, and what a point that it sees adds. The rules are taken from the Rust. Assumes nothing.
+-- What each finder of corners knows, and what a point that it sees adds. The rules are taken from the Rust. Assumes nothing.
 use Rattle.std.specs.Prelude.{pos, negsuc}
+use Rattle.points.specs.Range.{Within}
 use Rattle.points.specs.declared.Point.{Point}
-use Rattle.corners.specs.Scores.{distance_of, along_of, across_of, behind_of, left_of, line_from}
+use Rattle.corners.specs.Scores.{Direction, distance_of, along_of, across_of, behind_of, left_of, line_from}
 use Rattle.corners.specs.Best.{raised, scored}
 use Rattle.corners.specs.declared.first_corner.FirstCornerFinder.{FirstCornerFinder}
 use Rattle.corners.specs.declared.all_corners.AllCornerFinder.{AllCornerFinder}
@@ -42,3 +43,16 @@ left_most_from line start = record { line = line; best = scored (left_of line) s
 
 unfoldable pub left_most_sees : LeftMostFinder → Point → LeftMostFinder
 left_most_sees f p = record { line = f.line; best = raised f.best p (left_of f.line p) }
+
+-- what each measures from stays as it is, so it may be shown the next point too
+pub first_corner_stays : (f : FirstCornerFinder) (p : Point) → Within f.initial → Within (first_corner_sees f p).initial
+unfolding first_corner_sees
+first_corner_stays f p ready = ready
+
+pub all_corners_stay : (f : AllCornerFinder) (p : Point) → Direction f.baseline → Direction (all_corners_see f p).baseline
+unfolding all_corners_see
+all_corners_stay f p ready = ready
+
+pub left_most_stays : (f : LeftMostFinder) (p : Point) → Direction f.line → Direction (left_most_sees f p).line
+unfolding left_most_sees
+left_most_stays f p ready = ready

@@ -1,16 +1,10 @@
-ghost use Rattle.std.specs.Prelude.{◌≡◌, length};
+ghost use Rattle.std.specs.Prelude.{◌≡◌};
 ghost use Rattle.points.specs.Range.{Within};
-ghost use Rattle.pieces.specs.Paint.{Paints};
-ghost use Rattle.fill.specs.Order.{rows_met};
-ghost use Rattle.fill.specs.Fill.{Fillable};
-ghost use Rattle.fill.specs.Fold.{folded};
-ghost use Rattle.corners.specs.Rows.{Drawn, Sides, by_ends};
-ghost use Rattle.corners.specs.Finders.{first_corner_from, first_corner_sees};
+ghost use Rattle.corners.specs.Finders.{first_corner_from, first_corner_sees, first_corner_stays};
 
-use crate::places::{Best, point_at};
+use crate::finder::Finder;
+use crate::places::Best;
 use crate::scores::distance;
-use fill::step::{Stepped, fill_step, seed};
-use pieces::Row;
 use points::Point;
 
 // Finds a corner of a sheared rectangle: the point farthest from `initial`.
@@ -32,12 +26,16 @@ impl FirstCornerFinder {
             },
         }
     }
+}
 
-    fn see(self, p: Point) -> FirstCornerFinder
-        requires fact_1 { Within self.initial }
-        requires fact_2 { Within p }
-        ensures { result ≡ first_corner_sees self p }
-    {
+impl Finder for FirstCornerFinder {
+    ghost sees = { first_corner_sees };
+
+    ghost Ready = { λ f. Within f.initial };
+
+    ghost stays_ready = { first_corner_stays };
+
+    fn see(self, p: Point) -> FirstCornerFinder {
         let initial = self.initial;
         let best = self.best;
         FirstCornerFinder {
@@ -45,47 +43,4 @@ impl FirstCornerFinder {
             best: best.raised(p, distance(initial, p)),
         }
     }
-
-    // A row is met.
-    pub fn update(self, row: Row) -> FirstCornerFinder
-        requires fact_1 { Within self.initial }
-        requires fact_2 { Drawn row }
-        ensures { result ≡ by_ends first_corner_sees self row }
-    {
-        let f = self.see(point_at(row.left, row.y));
-        f.see(point_at(row.right, row.y))
-    }
-}
-
-// Paints the piece of (x, y) with `to`, and shows each row that it meets to the finder.
-pub fn fill_first_corner(
-    pic: &mut [u8],
-    w: usize,
-    h: usize,
-    stack: &mut [u32],
-    x: usize,
-    y: usize,
-    to: u8,
-    finder: FirstCornerFinder,
-) -> FirstCornerFinder
-    requires fact_1 { Fillable pic.old w h x y to (length stack.old) }
-    requires fact_2 { Sides w h }
-    requires fact_3 { Within finder.initial }
-    ensures { Paints pic.old w h x y to pic.new × (result ≡ folded (by_ends first_corner_sees) finder (rows_met pic.old w h x y to)) }
-{
-    let from = seed(pic, w, h, x, y, stack);
-    let mut found = finder;
-    let mut sp = 1;
-    while sp > 0 {
-        match fill_step(pic, w, h, from, to, stack, sp) {
-            Stepped::Met(row, top) => {
-                found = found.update(row);
-                sp = top;
-            }
-            Stepped::Passed(top) => {
-                sp = top;
-            }
-        }
-    }
-    found
 }

@@ -1,4 +1,5 @@
 -- Determined: two outcomes that detect's contract allows coincide, for every input. Assumes nothing.
+use Rattle.std.specs.Prelude.{Result}
 use Prim.Native.Nat.{ℕ}
 use native.Mathlib.Nat.{le_refl}
 use native.Mathlib.Omega.{arith}
@@ -6,6 +7,7 @@ use mathlib.Core.Path.{◌≡◌, sym, ap, ◌∙◌, subst}
 use mathlib.Core.List.{List, []}
 use lib.ListN.{length}
 use Rattle.refusals.specs.Finding.{Finding, found, refused}
+use Rattle.refusals.specs.declared.Refusal.{Refusal}
 use Rattle.picture.specs.Sides.{Roomy}
 use Rattle.table.specs.Table.{empty_table}
 use Rattle.table.specs.declared.Table.{Table}
@@ -82,6 +84,6 @@ detect_same (detects e X) (refuses n d is' same' table') = let z : ◌≡◌ {A 
 detect_same {p} {w} {h} {lent} {scratch} (detects e X) (detects d Y) = whole_same (starts_work p w h lent scratch e) X Y
 
 -- and so what it answers, in its array
-pub detect_determined : {p : List ℕ} {w h lent scratch : ℕ} {T : Table} {q r : List ℕ} {U Z : Table} (s t : Findings)
+pub detect_determined : {p : List ℕ} {w h lent scratch : ℕ} {T : Table} {q r : List ℕ} {U Z : Table} (s t : Result Findings Refusal)
     → DetectPost p w h lent scratch T (outcome s) q U × LaidOut s → DetectPost p w h lent scratch T (outcome t) r Z × LaidOut t → (s ≡ t) × (q ≡ r) × (U ≡ Z)
 detect_determined s t X Y = let a = detect_same X.0 Y.0 in (same_findings s t a.0 X.1 Y.1, a.1, a.2)

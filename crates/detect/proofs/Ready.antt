@@ -1,4 +1,6 @@
 -- The stones that a search finds can be grouped, and the groups of such stones fitted. Assumes nothing.
+use Rattle.std.specs.Prelude.{Result, Ok, Err}
+use Rattle.refusals.specs.declared.Refusal.{Refusal}
 use Prim.Native.Nat.{ℕ, zero, suc, ◌-◌, ◌≤◌, ◌<◌}
 use native.Mathlib.Omega.{arith}
 use mathlib.Core.Path.{◌≡◌, refl, sym, ap, ◌∙◌}
@@ -8,8 +10,6 @@ use lib.ListN.{length, length-append, get_or, take, replicate}
 use lib.Seq.{get_or-take, length-take-le}
 use Rattle.refusals.specs.Limits.{most_stones}
 use Rattle.refusals.specs.Finding.{Finding, found, refused}
-use Rattle.picture.specs.declared.Verdict.{Verdict}
-use Rattle.picture.specs.declared.Verdict.TheVariants.{Sound, Refused}
 use Rattle.laid.specs.Laid as laid
 use Rattle.pieces.specs.Count.{Mem}
 use Rattle.table.specs.declared.Table.{Table}
@@ -36,13 +36,13 @@ mem_at (a ∷ l) zero d low = inl refl
 mem_at (a ∷ l) (suc k) d low = inr (mem_at l k d (omega arith))
 
 -- a list that is told as found
-stands : {A : Type 0} (v : Verdict) (k l : List A) → laid.told v k ≡ found l → k ≡ l
+stands : {A : Type 0} (v : Result (Unit {0}) Refusal) (k l : List A) → laid.told v k ≡ found l → k ≡ l
 unfolding laid.told
-stands Sound k l e = cc
-stands (Refused why) k l e = let z : ◌≡◌ {A = ℕ} 0 1 = cc in absurd (omega arith)
+stands (Ok u) k l e = cc
+stands (Err why) k l e = let z : ◌≡◌ {A = ℕ} 0 1 = cc in absurd (omega arith)
 
 -- what is laid out is of its array: the marks, and the groups
-laid_long : {A : Type 0} (most : ℕ) (blank : A) {v : Verdict} {n : ℕ} {array : List A} → laid.Laid most blank v n array → n ≤ length array
+laid_long : {A : Type 0} (most : ℕ) (blank : A) {v : (Result (Unit {0}) Refusal)} {n : ℕ} {array : List A} → laid.Laid most blank v n array → n ≤ length array
 unfolding laid.laid_out laid.count_in
 laid_long {A} most blank {v} {n} {array} L = long (laid.outcome most blank v n array) L.count L.is
   where

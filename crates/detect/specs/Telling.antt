@@ -1,7 +1,8 @@
 -- What detect tells: document 01, "It finds the stones (count ..) and the grids (count ..)", and how that stands in an array of 31. Definitions alone.
-use Rattle.std.specs.Prelude.{ℕ, ◌≡◌, List}
-use Rattle.refusals.specs.Finding.{Finding, found, refused}
-use Rattle.laid.specs.Laid as laid
+use Rattle.std.specs.Prelude.{ℕ, List, take, Result, Ok, Err}
+use Rattle.refusals.specs.Finding.{Finding, found, refused, refused_by}
+use Rattle.refusals.specs.declared.Refusal.{Refusal}
+use Rattle.laid.specs.Laid.{Laid}
 use Rattle.grids.specs.declared.SkewedGridLocation.{SkewedGridLocation}
 use Rattle.bounds.specs.declared.Grid.{Grid}
 use Rattle.groupings.specs.Held.{most_groups}
@@ -24,16 +25,12 @@ unfoldable pub tells_located : ℕ → Finding (List SkewedGridLocation) → Fin
 tells_located count (found locations) = tells count (bounded_all locations)
 tells_located count (refused n) = refused n
 
--- what stands in findings
-abbrev pub outcome : Findings → Finding Telling
-outcome s = tells s.stones (laid.outcome most_groups no_grid s.verdict s.n s.grids)
+-- what stands in findings, or what refuses them
+abbrev pub outcome : Result Findings Refusal → Finding Telling
+outcome (Ok s) = found (record { stones = s.stones; grids = take s.n s.grids })
+outcome (Err why) = refused_by why
 
--- how many stones are told: none after a refusal
-unfoldable pub stones_told : Finding Telling → ℕ
-stones_told (found t) = t.stones
-stones_told (refused n) = 0
-
--- findings leave nothing to chance: blanks past the grids, and blanks alone after a refusal
-pub record LaidOut (s : Findings) : Type 0 where
-  pub grids : laid.Laid most_groups no_grid s.verdict s.n s.grids
-  pub stones : s.stones ≡ stones_told (outcome s)
+-- findings leave nothing to chance: blanks alone past the grids
+abbrev pub LaidOut : Result Findings Refusal → Type 0
+LaidOut (Ok s) = Laid most_groups no_grid (Ok tt) s.n s.grids
+LaidOut (Err why) = Unit {0}

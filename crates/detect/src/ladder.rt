@@ -4,18 +4,21 @@ ghost use Rattle.refusals.specs.First.{first, sound};
 ghost use Rattle.picture.specs.Verdict.{judged};
 ghost use Rattle.detect.specs.Detect.{detect_tests};
 
-use picture::{Verdict, accept, room};
+use picture::{accept, room};
+use refusals::Refusal;
 
 // All tests before the first step: sides, length, room in the stack and in the scratch, bytes.
-pub fn detectable(pic: &[u8], width: usize, height: usize, lent: usize, scratch: usize) -> Verdict
+pub fn detectable(
+    pic: &[u8],
+    width: usize,
+    height: usize,
+    lent: usize,
+    scratch: usize,
+) -> Result<(), Refusal>
     ensures { judged result ≡ first (detect_tests pic.now width height lent scratch) sound }
 {
     let n = pic.len();
-    match room(width, height, n, lent) {
-        Verdict::Refused(why) => Verdict::Refused(why),
-        Verdict::Sound => match room(width, height, n, scratch) {
-            Verdict::Refused(why) => Verdict::Refused(why),
-            Verdict::Sound => accept(pic, width, height),
-        },
-    }
+    room(width, height, n, lent)?;
+    room(width, height, n, scratch)?;
+    accept(pic, width, height)
 }

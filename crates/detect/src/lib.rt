@@ -2,7 +2,7 @@
 #![tactic(auto)]
 
 use bounds::Grid;
-use picture::Verdict;
+use refusals::Refusal;
 use table::Table;
 
 mod ladder;
@@ -12,18 +12,17 @@ mod whole;
 
 pub use whole::detect;
 
-// What detect tells: how many stones a picture has, and its grids, which are the first n of the array; or why it refuses. Every other place of the array is blank, and after a refusal no stones are told.
+// What detect tells: how many stones a picture has, and its grids, which are the first n of the array. Every other place of the array is blank.
 #[derive(Clone, Copy)]
 pub struct Findings {
     pub stones: usize,
     pub grids: [Grid; 31],
     pub n: usize,
-    pub verdict: Verdict,
 }
 
-// What detect tells, beside the table that it leaves.
+// What detect tells, or why it refuses, beside the table that it leaves.
 #[derive(Clone, Copy)]
 pub struct Detection {
-    pub findings: Findings,
+    pub findings: Result<Findings, Refusal>,
     pub table: Table,
 }

@@ -10,11 +10,10 @@ ghost use Rattle.detect.specs.Telling.{outcome, LaidOut};
 ghost use Rattle.detect.specs.Stages.{Named, Finishes, Gathers, Finds};
 
 use crate::Detection;
-use crate::telling::{refused, with_locations};
+use crate::telling::with_locations;
 use groupings::{Groupings, find_groupings};
 use locations::fit_all;
 use marks::{Marks, capstones_from_image};
-use picture::Verdict;
 use table::empty;
 
 // What the groups of the marks come to: the final pass over them, by what their trials set up, then the bounds.
@@ -32,14 +31,20 @@ fn finish(
     let table = marks.table;
     let verdict = found.verdict;
     match verdict {
-        Verdict::Refused(why) => refused(why, table),
-        Verdict::Sound => {
+        Err(why) => Detection {
+            findings: Err(why),
+            table: table,
+        },
+        Ok(()) => {
             let stones = marks.stones;
             let groups = found.groups;
             let setups = found.setups;
             let n = found.n;
             let located = fit_all(pic, width, height, stack, table, stones, groups, setups, n);
-            with_locations(marks.n, located)
+            Detection {
+                findings: with_locations(marks.n, located),
+                table: located.table,
+            }
         }
     }
 }
@@ -59,8 +64,11 @@ fn gather(
     let table = marks.table;
     let verdict = marks.verdict;
     match verdict {
-        Verdict::Refused(why) => refused(why, table),
-        Verdict::Sound => {
+        Err(why) => Detection {
+            findings: Err(why),
+            table: table,
+        },
+        Ok(()) => {
             let stones = marks.stones;
             let found = find_groupings(pic, width, height, stack, scratch, table, stones, marks.n);
             finish(pic, width, height, stack, marks, found)

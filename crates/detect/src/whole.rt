@@ -7,9 +7,6 @@ ghost use Rattle.detect.specs.Detect.{detect_tests, DetectsWhole, DetectPost};
 use crate::Detection;
 use crate::ladder::detectable;
 use crate::stages::find;
-use crate::telling::refused;
-use laid::is_sound;
-use picture::Verdict;
 use rollback::blacken;
 use table::Table;
 
@@ -26,16 +23,16 @@ fn detect_kept(
     ensures { DetectsWhole pic.old width height table (outcome result.findings) pic.new result.table × LaidOut result.findings }
 {
     let done = find(pic, width, height, stack, scratch);
-    let findings = done.findings;
-    let verdict = findings.verdict;
-    if !is_sound(verdict) {
-        blacken(pic);
-        return Detection {
-            findings: findings,
-            table: table,
-        };
+    match done.findings {
+        Err(why) => {
+            blacken(pic);
+            Detection {
+                findings: Err(why),
+                table: table,
+            }
+        }
+        Ok(_) => done,
     }
-    done
 }
 
 // Finds the stones and the grids of a bitmap: 1, 2, 3, 4, then as its stages meet them. It starts from the empty table, whatever the table at entry holds.
@@ -50,7 +47,10 @@ pub fn detect(
     ensures { DetectPost pic.old width height (length stack.old) (length scratch.old) table (outcome result.findings) pic.new result.table × LaidOut result.findings }
 {
     match detectable(pic, width, height, stack.len(), scratch.len()) {
-        Verdict::Refused(why) => refused(why, table),
-        Verdict::Sound => detect_kept(pic, width, height, stack, scratch, table),
+        Err(why) => Detection {
+            findings: Err(why),
+            table: table,
+        },
+        Ok(()) => detect_kept(pic, width, height, stack, scratch, table),
     }
 }

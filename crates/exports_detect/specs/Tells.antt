@@ -1,7 +1,7 @@
 -- What a call that detects tells. Definitions alone.
-use Rattle.std.specs.Prelude.{ℕ, ◌≤◌, ◌<◌, ◌≡◌, List, [], ◌∷◌, ◌⊎◌, ℤ, pos, Float, length, get_or}
-use Rattle.picture.specs.declared.Verdict.{Verdict}
-use Rattle.picture.specs.declared.Verdict.TheVariants.{Sound, Refused}
+use Rattle.std.specs.Prelude.{ℕ, ◌≤◌, ◌<◌, ◌≡◌, List, [], ◌∷◌, ◌⊎◌, ℤ, pos, Float, length, get_or, Result, Ok, Err}
+use Rattle.refusals.specs.declared.Refusal.{Refusal}
+use Rattle.refusals.specs.Numbers.{number_of}
 use Rattle.table.specs.Table.{empty_table}
 use Rattle.table.specs.declared.Table.{Table}
 use Rattle.bounds.specs.declared.Grid.{Grid}
@@ -10,7 +10,7 @@ use Rattle.detect.specs.Telling.{outcome, LaidOut}
 use Rattle.detect.specs.Detect.{DetectPost}
 use Rattle.detect.specs.declared.Findings.{Findings}
 use Rattle.told_places.specs.Put.{put_each}
-use Rattle.told_places.specs.Values.{floats_of, table_put, status_of}
+use Rattle.told_places.specs.Values.{floats_of, table_put}
 
 -- a grid's size and its four bounds, x before y
 abbrev pub places_of : Grid → List ℤ
@@ -29,23 +29,28 @@ abbrev pub all_floats : List Grid → List Float → List Float
 all_floats grids s = put_each (λ (k : ℕ). floats_of (grid_at grids k).c) 8 31 0 s
 
 -- the numbers after the call: the table that is left, and how many stones and grids there are; a refusal leaves them as they were
-unfoldable pub counts_after : Verdict → Findings → Table → List ℕ → List ℕ
-counts_after Sound f T s = table_put T f.stones f.n s
-counts_after (Refused why) f T s = s
+unfoldable pub counts_after : Result Findings Refusal → Table → List ℕ → List ℕ
+counts_after (Ok f) T s = table_put T f.stones f.n s
+counts_after (Err why) T s = s
 
 -- the grids' sizes and bounds after it
-unfoldable pub places_after : Verdict → Findings → List ℤ → List ℤ
-places_after Sound f s = all_places f.grids s
-places_after (Refused why) f s = s
+unfoldable pub places_after : Result Findings Refusal → List ℤ → List ℤ
+places_after (Ok f) s = all_places f.grids s
+places_after (Err why) s = s
 
 -- and their coefficients
-unfoldable pub floats_after : Verdict → Findings → List Float → List Float
-floats_after Sound f s = all_floats f.grids s
-floats_after (Refused why) f s = s
+unfoldable pub floats_after : Result Findings Refusal → List Float → List Float
+floats_after (Ok f) s = all_floats f.grids s
+floats_after (Err why) s = s
+
+-- what it returns: 0, or the number of a refusal
+unfoldable pub status_of : Result Findings Refusal → ℕ
+status_of (Ok f) = 0
+status_of (Err why) = number_of why
 
 -- the call leaves the picture pic' and returns a number; `counts`, `places` and `floats` were lent to hold what it tells
 pub data Tells (pic : List ℕ) (width height lent room : ℕ) (pic' counts counts' : List ℕ) (places places' : List ℤ) (floats floats' : List Float) (number : ℕ) : Type 0 where
   -- with too few places nothing is detected
   short : (length counts < 1007) ⊎ (length places < 279) ⊎ (length floats < 248) → pic' ≡ pic → counts' ≡ counts → places' ≡ places → floats' ≡ floats → number ≡ 3 → Tells pic width height lent room pic' counts counts' places places' floats floats' number
   -- else what detect finds is told; it starts from the empty table, whatever stands in the places of one
-  told : 1007 ≤ length counts → 279 ≤ length places → 248 ≤ length floats → (f : Findings) (left : Table) → DetectPost pic width height lent room empty_table (outcome f) pic' left → LaidOut f → counts' ≡ counts_after f.verdict f left counts → places' ≡ places_after f.verdict f places → floats' ≡ floats_after f.verdict f floats → number ≡ status_of f.verdict → Tells pic width height lent room pic' counts counts' places places' floats floats' number
+  told : 1007 ≤ length counts → 279 ≤ length places → 248 ≤ length floats → (f : Result Findings Refusal) (left : Table) → DetectPost pic width height lent room empty_table (outcome f) pic' left → LaidOut f → counts' ≡ counts_after f left counts → places' ≡ places_after f places → floats' ≡ floats_after f floats → number ≡ status_of f → Tells pic width height lent room pic' counts counts' places places' floats floats' number

@@ -4,13 +4,12 @@
 mod places;
 
 ghost use Rattle.std.specs.Prelude.{◌≡◌, ◌≤◌, length};
-ghost use Rattle.told_places.specs.Values.{table_put, status_of};
-ghost use Rattle.exports_detect.specs.Tells.{all_places, all_floats, counts_after, places_after, floats_after, Tells};
+ghost use Rattle.told_places.specs.Values.{table_put};
+ghost use Rattle.exports_detect.specs.Tells.{all_places, all_floats, counts_after, places_after, floats_after, status_of, Tells};
 
 use crate::places::put_grids;
 use detect::{Findings, detect};
-use picture::Verdict;
-use refusals::number_of;
+use refusals::Refusal;
 use table::{Table, empty};
 use told_places::entries::put_table;
 
@@ -33,19 +32,18 @@ fn put_found(
 
 // The answer: what is found, or a refusal's number.
 fn tell(
-    verdict: Verdict,
-    found: Findings,
+    found: Result<Findings, Refusal>,
     left: Table,
     counts: &mut [usize],
     places: &mut [i32],
     floats: &mut [f64],
 ) -> u8
     requires { (1007 ≤ length counts.old) × (279 ≤ length places.old) × (248 ≤ length floats.old) }
-    ensures { (result ≡ status_of verdict) × (counts.new ≡ counts_after verdict found left counts.old) × (places.new ≡ places_after verdict found places.old) × (floats.new ≡ floats_after verdict found floats.old) }
+    ensures { (result ≡ status_of found) × (counts.new ≡ counts_after found left counts.old) × (places.new ≡ places_after found places.old) × (floats.new ≡ floats_after found floats.old) }
 {
-    match verdict {
-        Verdict::Sound => put_found(found, left, counts, places, floats),
-        Verdict::Refused(why) => number_of(why),
+    match found {
+        Ok(found) => put_found(found, left, counts, places, floats),
+        Err(why) => u8::from(why),
     }
 }
 
@@ -78,8 +76,5 @@ pub extern "C" fn elmetzhur_detect(
     }
     let table = empty();
     let done = detect(pic, width, height, stack, scratch, table);
-    let left = done.table;
-    let found = done.findings;
-    let verdict = found.verdict;
-    tell(verdict, found, left, counts, places, floats)
+    tell(done.findings, done.table, counts, places, floats)
 }

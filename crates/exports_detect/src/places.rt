@@ -38,11 +38,9 @@ pub fn put_grids(grids: [Grid; 31], places: &mut [i32], floats: &mut [f64])
     requires fact_2 { 248 ≤ length floats.old }
     ensures { (places.new ≡ all_places grids places.old) × (floats.new ≡ all_floats grids floats.old) }
 {
-    let mut k: usize = 0;
-    while k < 31 {
+    for k in 0..31 {
         let grid = grids[k];
         put_places(grid, k * 9, places);
         put_floats(grid.c, k * 8, floats);
-        k += 1;
     }
 }

@@ -4,8 +4,8 @@ ghost use Rattle.told_places.specs.Put.{put_at};
 ghost use Rattle.told_places.specs.Values.{floats_of, counted_put};
 ghost use Rattle.exports_grids.specs.Tells.{status_of, counts_after, floats_after};
 
-use grids::{Fit, SkewedGridLocation};
-use refusals::number_of;
+use grids::SkewedGridLocation;
+use refusals::Refusal;
 use table::Table;
 use told_places::coefficients::put_floats;
 use told_places::entries::put_counted;
@@ -32,13 +32,18 @@ fn put_none(left: Table, counts: &mut [usize]) -> u8
 }
 
 // The answer: a grid, no grid, or a refusal's number.
-pub fn tell(fit: Fit, left: Table, counts: &mut [usize], floats: &mut [f64]) -> u8
+pub fn tell(
+    fit: Result<Option<SkewedGridLocation>, Refusal>,
+    left: Table,
+    counts: &mut [usize],
+    floats: &mut [f64],
+) -> u8
     requires { (1006 ≤ length counts.old) × (8 ≤ length floats.old) }
     ensures { (result ≡ status_of fit) × (counts.new ≡ counts_after fit left counts.old) × (floats.new ≡ floats_after fit floats.old) }
 {
     match fit {
-        Fit::Grid(grid) => put_grid(grid, left, counts, floats),
-        Fit::NoGrid => put_none(left, counts),
-        Fit::Refused(why) => number_of(why),
+        Ok(Some(grid)) => put_grid(grid, left, counts, floats),
+        Ok(None) => put_none(left, counts),
+        Err(why) => u8::from(why),
     }
 }

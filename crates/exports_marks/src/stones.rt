@@ -30,11 +30,9 @@ pub fn put_stones(stones: [CapStone; 64], places: &mut [i32], floats: &mut [f64]
     requires fact_2 { 512 ≤ length floats.old }
     ensures { (places.new ≡ all_places stones places.old) × (floats.new ≡ all_floats stones floats.old) }
 {
-    let mut k: usize = 0;
-    while k < 64 {
+    for k in 0..64 {
         let stone = stones[k];
         put_places(stone, k * 10, places);
         put_floats(stone.c, k * 8, floats);
-        k += 1;
     }
 }

@@ -3,8 +3,8 @@ ghost use Rattle.std.specs.Prelude.{◌≡◌, [], ◌∷◌, ◌+◌, ◌≤◌
 ghost use Rattle.told_places.specs.Put.{put_at};
 ghost use Rattle.exports_ranking.specs.Ranks.{all_pairs, status_of, count_put};
 
-use match_capstones::{Pair, Ranking};
-use refusals::number_of;
+use match_capstones::Pair;
+use refusals::Refusal;
 
 // A pair's two indices, from a place on.
 fn put_pair(pair: Pair, at: usize, out: &mut [usize])
@@ -20,11 +20,9 @@ pub fn put_pairs(pairs: [Pair; 992], out: &mut [usize])
     requires { 1984 ≤ length out.old }
     ensures { out.new ≡ all_pairs pairs out.old }
 {
-    let mut k: usize = 0;
-    while k < 992 {
+    for k in 0..992 {
         let pair = pairs[k];
         put_pair(pair, k * 2, out);
-        k += 1;
     }
 }
 
@@ -38,12 +36,12 @@ fn put_count(count: usize, out: &mut [usize]) -> u8
 }
 
 // The answer: how many pairs there are, or a refusal's number.
-pub fn put_answer(answer: Ranking, out: &mut [usize]) -> u8
+pub fn put_answer(answer: Result<usize, Refusal>, out: &mut [usize]) -> u8
     requires { 1985 ≤ length out.old }
     ensures { (out.new ≡ count_put answer out.old) × (result ≡ status_of answer) }
 {
     match answer {
-        Ranking::Pairs(count) => put_count(count, out),
-        Ranking::Refused(why) => number_of(why),
+        Ok(count) => put_count(count, out),
+        Err(why) => u8::from(why),
     }
 }

@@ -8,7 +8,7 @@ ghost use Rattle.told_places.specs.Values.{table_put};
 ghost use Rattle.exports_regions.specs.Tells.{ShownBy, status_of, counts_after, Tells};
 
 use picture::{PixelColor, byte_of};
-use refusals::number_of;
+use refusals::Refusal;
 use regions::{ColoredRegion, Region, look_up};
 use table::Table;
 use told_places::entries::put_table;
@@ -36,14 +36,14 @@ fn put_unclaimed(region: Region, left: Table, counts: &mut [usize]) -> u8
 }
 
 // The answer: a piece's region, with the table that the lookup left, or a refusal's number.
-fn tell(found: ColoredRegion, left: Table, counts: &mut [usize]) -> u8
+fn tell(found: Result<ColoredRegion, Refusal>, left: Table, counts: &mut [usize]) -> u8
     requires { (1007 ≤ length counts.old) × ShownBy (meaning found) }
     ensures { (result ≡ status_of (meaning found)) × (counts.new ≡ counts_after (meaning found) left counts.old) }
 {
     match found {
-        ColoredRegion::Claimed(color) => put_claimed(color, left, counts),
-        ColoredRegion::Unclaimed(region) => put_unclaimed(region, left, counts),
-        ColoredRegion::Refused(why) => number_of(why),
+        Ok(ColoredRegion::Claimed(color)) => put_claimed(color, left, counts),
+        Ok(ColoredRegion::Unclaimed(region)) => put_unclaimed(region, left, counts),
+        Err(why) => u8::from(why),
     }
 }
 

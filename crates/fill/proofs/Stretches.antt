@@ -38,6 +38,28 @@ module _ (p : List ℕ) (base f : ℕ) where
   unfolding past_run
   run_on x z n m e e' h = rw (e, e', past_run, eq-eqb (get_or p (base + x) 0) f h)
 
+  -- the first column from x on that shows f, or the end e where none does
+  pub others_is : (n x e r : ℕ) → e ≡ x + n → x ≤ r → r ≤ e → ((k : ℕ) → x ≤ k → k < r → get_or p (base + k) 0 ≡ f → ⊥) → (r < e → get_or p (base + r) 0 ≡ f) → r ≡ past_others p base f x n
+  others_is zero x e r q low high before shown = let z : r ≡ x = omega arith in z ∙ sym (others_none x 0 refl)
+  others_is (suc n) x e r q low high before shown =
+      ⊎_elim
+      (λ z. z ∙ sym (others_here x (suc n) n refl (ap (λ (k : ℕ). get_or p (base + k) 0) (sym z) ∙ shown (omega arith))))
+      (λ z.
+      others_is n (suc x) e r (omega arith) (omega arith) high (λ k a b. before k (omega arith) b) shown
+      ∙ sym (others_on x (suc x) (suc n) n refl refl (before x (omega arith) (omega arith))))
+      (same r x)
+
+  -- the first that shows another byte
+  pub run_is : (n x e r : ℕ) → e ≡ x + n → x ≤ r → r ≤ e → ((k : ℕ) → x ≤ k → k < r → get_or p (base + k) 0 ≡ f) → (r < e → get_or p (base + r) 0 ≡ f → ⊥) → r ≡ past_run p base f x n
+  run_is zero x e r q low high before shown = let z : r ≡ x = omega arith in z ∙ sym (run_none x 0 refl)
+  run_is (suc n) x e r q low high before shown =
+      ⊎_elim
+      (λ z. z ∙ sym (run_here x (suc n) n refl (λ h. shown (omega arith) (ap (λ (k : ℕ). get_or p (base + k) 0) z ∙ h))))
+      (λ z.
+      run_is n (suc x) e r (omega arith) (omega arith) high (λ k a b. before k (omega arith) b) shown
+      ∙ sym (run_on x (suc x) (suc n) n refl refl (before x (omega arith) (omega arith))))
+      (same r x)
+
   -- r is a column from x on that shows f, or the end e
   pub record Onset (x e r : ℕ) : Type 0 where
     pub low : x ≤ r

@@ -32,6 +32,7 @@ pub fn paint_and_count(
     let mut rows = 0;
     let mut pixels = 0;
     let mut pushes = 1;
+    // The stack decides when it ends. As a finder (crate corners) the counts would be a type and an impl longer than this, and every fill would count pushes.
     while sp > 0 {
         let at = sp - 1;
         match fill_step(pic, w, h, from, to, stack, sp) {

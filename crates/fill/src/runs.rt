@@ -2,6 +2,7 @@
 ghost use Rattle.std.specs.Prelude.{◌≡◌, ◌+◌, ◌*◌, ◌-◌, ◌<◌, ◌≤◌, length};
 ghost use Rattle.fill.specs.Order.{left_end, right_end, row_at, paint_run};
 
+use crate::seeds::past_run;
 use pieces::Row;
 
 // The leftmost column that is reached from x over bytes `from`, on the line y, which starts at base.
@@ -9,15 +10,12 @@ fn leftmost(pic: &[u8], w: usize, y: usize, base: usize, x: usize, from: u8) -> 
     requires { (base ≡ y * w) × (base + x < length pic.now) }
     ensures { result ≡ left_end pic.now w from y x }
 {
-    let mut left = x;
-    while left > 0 {
-        let k = left - 1;
+    for k in (0..x).rev() {
         if pic[base + k] != from {
-            return left;
+            return k + 1;
         }
-        left = k;
     }
-    left
+    0
 }
 
 // The rightmost.
@@ -25,15 +23,7 @@ fn rightmost(pic: &[u8], w: usize, y: usize, base: usize, x: usize, from: u8) ->
     requires { (base ≡ y * w) × (x < w) × (base + w ≤ length pic.now) }
     ensures { result ≡ right_end pic.now w from y x (w - 1 - x) }
 {
-    let mut right = x;
-    while right < w - 1 {
-        let k = right + 1;
-        if pic[base + k] != from {
-            return right;
-        }
-        right = k;
-    }
-    right
+    past_run(pic, base, x + 1, w, from) - 1
 }
 
 // The row of bytes `from` that holds (x, y); the line y starts at base.
@@ -59,9 +49,8 @@ pub fn paint_run(pic: &mut [u8], at: usize, n: usize, to: u8)
         pic[at] = to;
         return;
     }
-    let mut k = 0;
-    while k < n {
+    // A loop and no `fill`: with that, a claim of short rows takes a tenth longer.
+    for k in 0..n {
         pic[at + k] = to;
-        k += 1;
     }
 }

@@ -1,5 +1,5 @@
 // The entries that a row pushes for the lines above and below it.
-ghost use Rattle.std.specs.Prelude.{◌≡◌, false, ◌+◌, ◌*◌, ◌-◌, ◌<◌, ◌≤◌, length};
+ghost use Rattle.std.specs.Prelude.{◌≡◌, ℕ, false, true, ◌+◌, ◌*◌, ◌-◌, ◌<◌, ◌≤◌, length, slice_index};
 ghost use Rattle.pieces.specs.Picture.{pixel};
 ghost use Rattle.fill.specs.Order.{seeds, above, below};
 ghost use Rattle.fill.specs.Stack.{widest, held};
@@ -28,34 +28,36 @@ fn seed_pixel(
     sp + 1
 }
 
-// The first column from x on, before `end`, that shows `from`, on the line that starts at base; `end` where there is none.
+// The first column from x on, before `end`, whose byte passes the test, on the line that starts at base; `end` where none does.
+fn first_column<F: Fn(u8) -> bool>(pic: &[u8], base: usize, x: usize, end: usize, test: F) -> usize
+    requires inside { (x ≤ end) × (base + end ≤ length pic.now) }
+    requires callable { F.IsAlwaysCallable test }
+    ensures within { (x ≤ result) × (result ≤ end) }
+    ensures before { (k : ℕ) → x ≤ k → k < result → F.post test (slice_index pic.now (base + k)) false }
+    ensures shown { result < end → F.post test (slice_index pic.now (base + result)) true }
+{
+    for k in x..end {
+        if test(pic[base + k]) {
+            return k;
+        }
+    }
+    end
+}
+
+// The first that shows `from`.
 fn past_others(pic: &[u8], base: usize, x: usize, end: usize, from: u8) -> usize
     requires { (x ≤ end) × (base + end ≤ length pic.now) }
     ensures { result ≡ past_others pic.now base from x (end - x) }
 {
-    let mut k = x;
-    while k < end {
-        if pic[base + k] == from {
-            return k;
-        }
-        k += 1;
-    }
-    k
+    first_column(pic, base, x, end, |b| b == from)
 }
 
 // The first that shows another byte.
-fn past_run(pic: &[u8], base: usize, x: usize, end: usize, from: u8) -> usize
+pub fn past_run(pic: &[u8], base: usize, x: usize, end: usize, from: u8) -> usize
     requires { (x ≤ end) × (base + end ≤ length pic.now) }
     ensures { result ≡ past_run pic.now base from x (end - x) }
 {
-    let mut k = x;
-    while k < end {
-        if pic[base + k] != from {
-            return k;
-        }
-        k += 1;
-    }
-    k
+    first_column(pic, base, x, end, |b| b != from)
 }
 
 // Pushes an entry for each of n columns from left on at which bytes `from` begin, on the line y, which starts at base. Answers the stack's new size.
@@ -80,6 +82,7 @@ pub fn seed_line(
     let end = left + n;
     let mut top = sp;
     let mut x = past_others(pic, base, left, end, from);
+    // A loop with a column of its own: each turn finds where the next bytes begin, and no list of these columns is known before.
     while x < end {
         stack[top] = (y * 1024 + x) as u32;
         top += 1;
@@ -89,7 +92,7 @@ pub fn seed_line(
     top
 }
 
-// The entries for the line above the row.
+// The entries for the line above the row. Above and below apart: each tests for its own end of the picture, and `seed_line` is what they share.
 pub fn seed_above(
     pic: &[u8],
     w: usize,

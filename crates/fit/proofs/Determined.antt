@@ -1,4 +1,6 @@
 -- What a group comes to, the picture and the table after it are determined, for every input. Assumes nothing.
+use Rattle.std.specs.Prelude.{Option, Result}
+use Rattle.refusals.specs.declared.Refusal.{Refusal}
 use Prim.Native.Nat.{ℕ}
 use native.Mathlib.Omega.{arith}
 use mathlib.Core.Path.{◌≡◌, sym, ap, ◌∙◌}
@@ -18,7 +20,6 @@ use Rattle.outline.specs.declared.Outline.{Outline}
 use Rattle.outline.proofs.Drawn.{outline_drawn}
 use Rattle.grids.specs.Grid.{meaning}
 use Rattle.grids.specs.declared.SkewedGridLocation.{SkewedGridLocation}
-use Rattle.grids.specs.declared.Fit.{Fit}
 use Rattle.grids.proofs.Determined.{meaning_only}
 use Rattle.corners.specs.Scores.{Direction}
 use Rattle.fourth_corner.proofs.Determined.{corner_determined}
@@ -68,5 +69,5 @@ module _ {p : List ℕ} {w h lent room : ℕ} {T : Table} {k : CapStoneGroup} (l
       let P : Proper T w h = record { entries = long.entries; age = long.age; sound = (sound_exact T w h (omega (arith, long.age))).0 F.workable.sound } in
       whole_same F.workable.roomy P F.centred F.cornered X Y
 
-  pub fit_determined : (a b : Fit) → FitPost p w h lent room T k (meaning a) q U → FitPost p w h lent room T k (meaning b) r Z → Alike a q U b r Z
+  pub fit_determined : (a b : Result (Option SkewedGridLocation) Refusal) → FitPost p w h lent room T k (meaning a) q U → FitPost p w h lent room T k (meaning b) r Z → Alike a q U b r Z
   fit_determined a b X Y = let d = post_same X Y in (meaning_only a b d.0, d.1, d.2)

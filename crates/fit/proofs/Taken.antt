@@ -3,9 +3,8 @@ use Prim.Native.Nat.{ℕ, ◌*◌, ◌≤◌}
 use native.Mathlib.Omega.{arith}
 use mathlib.Core.Path.{◌≡◌, refl}
 use mathlib.Core.List.{List}
-use mathlib.Core.Bool.{true, false, ◌&&◌, and-eq-true_iff}
+use mathlib.Core.Bool.{true, ◌&&◌, and-eq-true_iff}
 use lib.IntN.{ℤ, pos, negsuc}
-use lib.Signed.{lt_z}
 use lib.ListN.{length}
 use borrow.Author.Tests.{ltb-true, ltb-false, not-false}
 use Rattle.refusals.specs.First.{first, sound}
@@ -22,11 +21,6 @@ use Rattle.groups.specs.Group.{Centred, Framed, Cornered}
 use Rattle.groups.specs.declared.CapStoneGroup.{CapStoneGroup}
 use Rattle.fourth_corner.specs.Corner.{Workable}
 use Rattle.fit.specs.Tests.{along, on_picture, stone_inside, stone_taken, group_taken, fit_tests}
-
-pub below : (side : ℕ) (z : ℤ) → lt_z z (pos 0) ≡ true → along side z ≡ false
-unfolding along
-below side (pos n) h = let k = ltb-true n 0 h in absurd (omega arith)
-below side (negsuc n) h = refl
 
 module _ (w h : ℕ) (wide : w ≤ longest_side) (tall : h ≤ longest_side) where
   along_inside : (side : ℕ) → side ≤ longest_side → (z : ℤ) → along side z ≡ true → Inside z

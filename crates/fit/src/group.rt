@@ -10,11 +10,11 @@ ghost use Rattle.fourth_corner.specs.Corner.{Workable};
 ghost use Rattle.fit.specs.Fit.{located_by, Completes, Fits};
 
 use crate::{Fitted, Refitted};
-use alignment::Sighting;
 use fourth_corner::find_corner;
-use grids::Fit;
 use groups::CapStoneGroup;
-use outline::{Outline, Outlined, outline_of};
+use outline::{Outline, outline_of};
+use points::Point;
+use refusals::Refusal;
 use setups::{Answer, Setup, no_setup, set_up};
 use table::Table;
 
@@ -24,7 +24,7 @@ fn located(
     width: usize,
     height: usize,
     outline: Outline,
-    place: Sighting,
+    place: Result<Option<Point>, Refusal>,
     known: Setup,
 ) -> Answer
     requires fact_1 { Sized width height (length pic.now) }
@@ -38,7 +38,7 @@ fn located(
     let third = group.third;
     let size = outline.size;
     match place {
-        Sighting::At(corner) => set_up(
+        Ok(Some(corner)) => set_up(
             pic,
             width,
             height,
@@ -49,12 +49,12 @@ fn located(
             size,
             known,
         ),
-        Sighting::Nowhere => Answer {
-            fit: Fit::NoGrid,
+        Ok(None) => Answer {
+            fit: Ok(None),
             setup: known,
         },
-        Sighting::Refused(why) => Answer {
-            fit: Fit::Refused(why),
+        Err(why) => Answer {
+            fit: Err(why),
             setup: known,
         },
     }
@@ -97,17 +97,17 @@ pub fn refit(
     ensures { Fits pic.old width height table group (meaning result.answer.fit) pic.new result.table × Remembers pic.old width height result.answer.setup }
 {
     match outline_of(pic, width, height, group) {
-        Outlined::Drawn(outline) => complete(pic, width, height, stack, table, outline, known),
-        Outlined::Apart => Refitted {
+        Ok(Some(outline)) => complete(pic, width, height, stack, table, outline, known),
+        Ok(None) => Refitted {
             answer: Answer {
-                fit: Fit::NoGrid,
+                fit: Ok(None),
                 setup: known,
             },
             table: table,
         },
-        Outlined::Refused(why) => Refitted {
+        Err(why) => Refitted {
             answer: Answer {
-                fit: Fit::Refused(why),
+                fit: Err(why),
                 setup: known,
             },
             table: table,

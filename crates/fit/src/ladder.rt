@@ -7,7 +7,7 @@ ghost use Rattle.fit.specs.Tests.{along, on_picture, stone_inside, stone_taken, 
 
 use capstones::CapStone;
 use groups::CapStoneGroup;
-use picture::{Verdict, room};
+use picture::room;
 use points::Point;
 use refusals::Refusal;
 use stated::is_near;
@@ -17,77 +17,67 @@ use table::{Table, is_sound};
 fn is_along(z: i32, side: usize) -> bool
     ensures { result ≡ along side z }
 {
-    if z < 0 {
-        return false;
-    }
-    let n = z as usize;
-    n < side
+    0 <= z && (z as usize) < side
 }
 
 // Whether a point is a pixel of the picture.
+#[tactic(auto, unfolding(crate::specs::Tests::on_picture))]
 fn is_inside(p: Point, width: usize, height: usize) -> bool
     ensures { result ≡ on_picture width height p }
 {
-    if !is_along(p.x, width) {
-        return false;
-    }
-    is_along(p.y, height)
+    is_along(p.x, width) && is_along(p.y, height)
 }
 
 // Whether all corners of a stone are.
+#[tactic(auto, unfolding(crate::specs::Tests::stone_inside))]
 fn is_framed(s: CapStone, width: usize, height: usize) -> bool
     ensures { result ≡ stone_inside width height s }
 {
-    if !is_inside(s.corner0, width, height) {
-        return false;
-    }
-    if !is_inside(s.corner1, width, height) {
-        return false;
-    }
-    if !is_inside(s.corner2, width, height) {
-        return false;
-    }
-    is_inside(s.corner3, width, height)
+    is_inside(s.corner0, width, height)
+        && is_inside(s.corner1, width, height)
+        && is_inside(s.corner2, width, height)
+        && is_inside(s.corner3, width, height)
 }
 
 // Whether fit takes a stone.
+#[tactic(auto, unfolding(crate::specs::Tests::stone_taken))]
 fn is_taken(s: CapStone, width: usize, height: usize) -> bool
     ensures { result ≡ stone_taken width height s }
 {
-    if !is_framed(s, width, height) {
-        return false;
-    }
-    is_near(s.center)
+    is_framed(s, width, height) && is_near(s.center)
 }
 
 // Whether fit takes all stones of a group.
+#[tactic(auto, unfolding(crate::specs::Tests::group_taken))]
 fn is_taken_whole(g: CapStoneGroup, width: usize, height: usize) -> bool
     ensures { result ≡ group_taken width height g }
 {
-    if !is_taken(g.first, width, height) {
-        return false;
-    }
-    if !is_taken(g.second, width, height) {
-        return false;
-    }
-    is_taken(g.third, width, height)
+    is_taken(g.first, width, height)
+        && is_taken(g.second, width, height)
+        && is_taken(g.third, width, height)
 }
 
 // The tests of fit that are its own: 3 for the scratch, 9, 12.
-fn own(width: usize, height: usize, scratch: usize, table: Table, group: CapStoneGroup) -> Verdict
+fn own(
+    width: usize,
+    height: usize,
+    scratch: usize,
+    table: Table,
+    group: CapStoneGroup,
+) -> Result<(), Refusal>
     requires { (width ≤ longest_side) × (height ≤ longest_side) }
     ensures { judged result ≡ first (own_tests width height scratch table group) sound }
 {
     if scratch < width * height {
-        return Verdict::Refused(Refusal::Room);
+        return Err(Refusal::Room);
     }
     if !is_sound(table, width, height) {
-        return Verdict::Refused(Refusal::Table);
+        return Err(Refusal::Table);
     }
     if !is_taken_whole(group, width, height) {
-        return Verdict::Refused(Refusal::Far);
+        return Err(Refusal::Far);
     }
-    Verdict::Sound
+    Ok(())
 }
 
 // All the tests before the first step.
@@ -99,11 +89,9 @@ pub fn fittable(
     scratch: usize,
     table: Table,
     group: CapStoneGroup,
-) -> Verdict
+) -> Result<(), Refusal>
     ensures { judged result ≡ first (fit_tests width height len lent scratch table group) sound }
 {
-    match room(width, height, len, lent) {
-        Verdict::Refused(why) => Verdict::Refused(why),
-        Verdict::Sound => own(width, height, scratch, table, group),
-    }
+    room(width, height, len, lent)?;
+    own(width, height, scratch, table, group)
 }

@@ -1,7 +1,8 @@
 // Fitting a group of stones: from three stones to a located grid (identify/grid.rs, `SkewedGridLocation::from_group`).
 #![tactic(auto)]
 
-use grids::Fit;
+use grids::SkewedGridLocation;
+use refusals::Refusal;
 use setups::Answer;
 use table::Table;
 
@@ -15,7 +16,7 @@ pub use whole::fit_group;
 // What a group comes to, beside the table that fitting it leaves.
 #[derive(Clone, Copy)]
 pub struct Fitted {
-    pub fit: Fit,
+    pub fit: Result<Option<SkewedGridLocation>, Refusal>,
     pub table: Table,
 }
 

@@ -8,19 +8,19 @@ ghost use Rattle.fit.specs.Fit.{is_refusal, FitsWhole, FitPost};
 use crate::Fitted;
 use crate::group::from_group;
 use crate::ladder::fittable;
-use grids::Fit;
+use grids::SkewedGridLocation;
 use groups::CapStoneGroup;
-use picture::Verdict;
+use refusals::Refusal;
 use table::Table;
 
 // Whether a group is refused.
-fn is_refused(fit: Fit) -> bool
+fn is_refused(fit: Result<Option<SkewedGridLocation>, Refusal>) -> bool
     ensures { result ≡ is_refusal (meaning fit) }
 {
     match fit {
-        Fit::Grid(_) => false,
-        Fit::NoGrid => false,
-        Fit::Refused(_) => true,
+        Ok(Some(_)) => false,
+        Ok(None) => false,
+        Err(_) => true,
     }
 }
 
@@ -81,10 +81,10 @@ pub fn fit_group(
         table,
         group,
     ) {
-        Verdict::Refused(why) => Fitted {
-            fit: Fit::Refused(why),
+        Err(why) => Fitted {
+            fit: Err(why),
             table: table,
         },
-        Verdict::Sound => fit_kept(pic, width, height, stack, scratch, table, group),
+        Ok(()) => fit_kept(pic, width, height, stack, scratch, table, group),
     }
 }

@@ -1,5 +1,5 @@
 -- Scores of expected cells: they can be summed part by part, and a list of light cells counts as the dark ones do, against. Assumes nothing.
-use Prim.Native.Nat.{ℕ, zero, suc, ◌+◌, ◌≤◌}
+use Prim.Native.Nat.{ℕ, zero, suc, ◌+◌, ◌-◌, ◌≤◌}
 use native.Mathlib.Nat.{le_refl}
 use native.Mathlib.Numerals.{add-one}
 use native.Mathlib.Omega.{arith}
@@ -68,3 +68,10 @@ module _ (pic : List ℕ) (width height : ℕ) (c : Perspective) where
         is = s.is ∙ rw (p.is, q.is, add-one) (sym (scores_append (each i turn) (turn i)));
         small = let a = s.small in let b = p.small in let d = q.small in omega arith;
       }
+
+  -- the same for turns that are counted from a first place on
+  pub one_place : (at : ℕ → List Expected) (from k : ℕ) {most more n : ℕ} {before this r : Fitness} → from ≤ k → Scores (score_of pic width height c (each (k - from) (λ i. at (from + i)))) most before → Scores (score_of pic width height c (at k)) more this → Scores (meaning before ⊞ meaning this) (extent (meaning before) + extent (meaning this)) r → most + more ≤ n → Scores (score_of pic width height c (each (k + 1 - from) (λ i. at (from + i)))) n r
+  one_place at from k low p q s few =
+      let here : from + (k - from) ≡ k = omega arith in
+      let next : k + 1 - from ≡ k - from + 1 = omega arith in
+      rw next (one_more (λ i. at (from + i)) (k - from) p (rw here q) s few)

@@ -55,10 +55,8 @@ pub fn fitness_edges(
     ensures { Scores (score_of pic.now width height c (edges version)) 3000 result }
 {
     let mut score = Fitness::Score(0);
-    let mut i: usize = 0;
-    while i + 2 < n {
-        score = score.plus(fitness_edge(pic, width, height, c, place(version, 1 + i)));
-        i += 1;
+    for k in 1..n.saturating_sub(1) {
+        score = score.plus(fitness_edge(pic, width, height, c, place(version, k)));
     }
     score
 }
@@ -80,10 +78,8 @@ fn fitness_column(
     ensures { Scores (score_of pic.now width height c (column version cx)) 1350 result }
 {
     let mut score = Fitness::Score(0);
-    let mut j: usize = 0;
-    while j + 1 < n {
-        score = score.plus(fitness_apat(pic, width, height, c, cx, place(version, 1 + j)));
-        j += 1;
+    for k in 1..n {
+        score = score.plus(fitness_apat(pic, width, height, c, cx, place(version, k)));
     }
     score
 }
@@ -103,18 +99,9 @@ pub fn fitness_columns(
     ensures { Scores (score_of pic.now width height c (columns version)) 9000 result }
 {
     let mut score = Fitness::Score(0);
-    let mut i: usize = 0;
-    while i + 1 < n {
-        score = score.plus(fitness_column(
-            pic,
-            width,
-            height,
-            c,
-            version,
-            n,
-            place(version, 1 + i),
-        ));
-        i += 1;
+    for k in 1..n {
+        let cx = place(version, k);
+        score = score.plus(fitness_column(pic, width, height, c, version, n, cx));
     }
     score
 }

@@ -49,10 +49,8 @@ fn fitness_ring(
     ensures { Scores (score_of pic.now width height c (ring dark cx cy radius)) (72 * radius) result }
 {
     let mut score = Fitness::Score(0);
-    let mut i: u32 = 0;
-    while i < 2 * radius {
+    for i in 0..2 * radius {
         score = score.plus(fitness_sides(pic, width, height, c, cx, cy, radius, i));
-        i += 1;
     }
     score
 }

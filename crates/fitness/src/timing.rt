@@ -29,10 +29,8 @@ pub fn fitness_timing(pic: &[u8], width: usize, height: usize, c: Perspective, s
     ensures { Scores (score_of pic.now width height c (timing size)) 3000 result }
 {
     let mut score = Fitness::Score(0);
-    let mut i: u32 = 0;
-    while i < size - 14 {
-        score = score.plus(fitness_crossing(pic, width, height, c, 7 + i));
-        i += 1;
+    for k in 7..size - 7 {
+        score = score.plus(fitness_crossing(pic, width, height, c, k));
     }
     score
 }

@@ -9,7 +9,7 @@ ghost use Rattle.alignment.specs.Search.{meaning};
 ghost use Rattle.outline.specs.Outline.{Sketched};
 ghost use Rattle.fourth_corner.specs.Corner.{Workable, Seeks, Corners};
 
-use alignment::{Estimate, Sighting, Sought, find_alignment_pattern, leftmost, size_estimate};
+use alignment::{Sought, find_alignment_pattern, leftmost, size_estimate};
 use outline::Outline;
 use points::Point;
 use table::Table;
@@ -29,18 +29,13 @@ fn seek(
     ensures { Seeks pic.old width height table corner hd estimate (meaning result.place) pic.new result.table }
 {
     let sought = find_alignment_pattern(pic, width, height, stack, table, corner, estimate);
-    let place = sought.place;
-    let after = sought.table;
-    match place {
-        Sighting::At(at) => {
-            let point = leftmost(pic, width, height, stack, at, hd);
-            Sought {
-                place: Sighting::At(point),
-                table: after,
-            }
-        }
-        Sighting::Nowhere => sought,
-        Sighting::Refused(_) => sought,
+    let Ok(Some(at)) = sought.place else {
+        return sought;
+    };
+    let point = leftmost(pic, width, height, stack, at, hd);
+    Sought {
+        place: Ok(Some(point)),
+        table: sought.table,
     }
 }
 
@@ -59,7 +54,7 @@ pub fn find_corner(
     let corner = outline.corner;
     if outline.size <= 21 {
         return Sought {
-            place: Sighting::At(corner),
+            place: Ok(Some(corner)),
             table: table,
         };
     }
@@ -68,9 +63,9 @@ pub fn find_corner(
     let first = group.first;
     let third = group.third;
     match size_estimate(first.c, third.c, corner) {
-        Estimate::Size(n) => seek(pic, width, height, stack, table, corner, hd, n),
-        Estimate::Refused(why) => Sought {
-            place: Sighting::Refused(why),
+        Ok(n) => seek(pic, width, height, stack, table, corner, hd, n),
+        Err(why) => Sought {
+            place: Err(why),
             table: table,
         },
     }

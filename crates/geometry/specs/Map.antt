@@ -1,26 +1,22 @@
 -- Where a point of the grid lies in the picture. The float steps are taken from the Rust, in its order; the rounding is arithmetic (crate rounding). Assumes nothing.
-use Rattle.std.specs.Prelude.{Float}
+use Rattle.std.specs.Prelude.{Float, Option, Some, None, ℤ}
 use Rattle.refusals.specs.Finding.{Finding, found, refused_by}
 use Rattle.refusals.specs.declared.Refusal.TheVariants as refusal
 use Rattle.rounding.specs.Nearest.{nearest_of}
-use Rattle.rounding.specs.declared.Whole.{Whole}
-use Rattle.rounding.specs.declared.Whole.TheVariants.{At, Off}
 use Rattle.floats.specs.Float64.{◌⊕◌, ◌⊗◌, ◌⊘◌, one}
 use Rattle.points.specs.declared.Point.{Point}
 use Rattle.geometry.specs.declared.Perspective.{Perspective}
-use Rattle.geometry.specs.declared.Spot.{Spot}
-use Rattle.geometry.specs.declared.Spot.TheVariants.{Placed, Unplaced}
 
 -- an answer in document 01's terms: two coordinates, or 13
-abbrev pub meaning : Spot → Finding Point
-meaning (Placed p) = found p
-meaning Unplaced = refused_by refusal.Unplaced
+abbrev pub meaning : Option Point → Finding Point
+meaning (Some p) = found p
+meaning None = refused_by refusal.Unplaced
 
 -- two rounded coordinates are a place; where an `i32` does not hold one of them there is none
-unfoldable pub placed : Whole → Whole → Finding Point
-placed (At a) (At b) = found (record { x = a; y = b })
-placed (At a) Off = refused_by refusal.Unplaced
-placed Off b = refused_by refusal.Unplaced
+unfoldable pub placed : Option ℤ → Option ℤ → Finding Point
+placed (Some a) (Some b) = found (record { x = a; y = b })
+placed (Some a) None = refused_by refusal.Unplaced
+placed None b = refused_by refusal.Unplaced
 
 unfoldable pub map_den : Perspective → Float → Float → Float
 map_den p u v = p.c6 ⊗ u ⊕ p.c7 ⊗ v ⊕ one

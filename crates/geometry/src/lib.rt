@@ -21,18 +21,11 @@ pub struct Perspective {
     pub c7: f64,
 }
 
-// The perspective of four corners: made, or flat, where they have none.
+// The perspective of four corners: made, or flat, where they have none. No Option: document 01 names this form, an enum whose first case holds the perspective, the second nothing.
 #[derive(Clone, Copy)]
 pub enum Sight {
     Made(Perspective),
     Flat,
-}
-
-// Where a point of the grid lies in the picture: at a pixel's place, or at none that an `i32` holds (refusal 13).
-#[derive(Clone, Copy)]
-pub enum Spot {
-    Placed(Point),
-    Unplaced,
 }
 
 // A point of the grid.

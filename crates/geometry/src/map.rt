@@ -3,22 +3,16 @@ ghost use Rattle.std.specs.Prelude.{◌≡◌};
 ghost use Rattle.rounding.specs.Nearest.{nearest_of};
 ghost use Rattle.geometry.specs.Map.{meaning, placed, map_den, mapped};
 
-use crate::{Perspective, Spot};
+use crate::Perspective;
 use points::Point;
-use rounding::Whole;
 
-fn place(x: f64, y: f64) -> Spot
+fn place(x: f64, y: f64) -> Option<Point>
     ensures { meaning result ≡ placed (nearest_of x) (nearest_of y) }
 {
-    let across = rounding::nearest(x);
-    let down = rounding::nearest(y);
-    match across {
-        Whole::At(i) => match down {
-            Whole::At(j) => Spot::Placed(Point { x: i, y: j }),
-            Whole::Off => Spot::Unplaced,
-        },
-        Whole::Off => Spot::Unplaced,
-    }
+    Some(Point {
+        x: rounding::nearest(x)?,
+        y: rounding::nearest(y)?,
+    })
 }
 
 fn map_den(p: Perspective, u: f64, v: f64) -> f64
@@ -29,7 +23,7 @@ fn map_den(p: Perspective, u: f64, v: f64) -> f64
 
 impl Perspective {
     // The pixel's place at which the grid's point (u, v) lies, halves rounded away from zero; or none (refusal 13).
-    pub fn map(self, u: f64, v: f64) -> Spot
+    pub fn map(self, u: f64, v: f64) -> Option<Point>
         ensures { meaning result ≡ mapped self u v }
     {
         let den = map_den(self, u, v);

@@ -1,5 +1,6 @@
 -- A located grid: document 01, "Groups and grids"; which corners go where is taken from the Rust. Definitions alone.
-use Rattle.std.specs.Prelude.{ℕ, ◌-◌, ◌≤◌, ◌≡◌, cond, List, [], ◌∷◌, leb, pos, Float}
+use Rattle.std.specs.Prelude.{ℕ, ◌-◌, ◌≤◌, ◌≡◌, cond, List, [], ◌∷◌, leb, pos, Float, Option, Some, None, Result, Ok, Err}
+use Rattle.refusals.specs.declared.Refusal.{Refusal}
 use Rattle.refusals.specs.Finding.{Finding, found, refused, refused_by}
 use Rattle.floats.specs.Float64.{float}
 use Rattle.points.specs.declared.Point.{Point}
@@ -11,14 +12,12 @@ use Rattle.version_db.specs.AnnexE.{size_of, version_of}
 use Rattle.refine.specs.Refine.{refined_of}
 use Rattle.refine.specs.declared.Refined.{Refined}
 use Rattle.grids.specs.declared.SkewedGridLocation.{SkewedGridLocation}
-use Rattle.grids.specs.declared.Fit.{Fit}
-use Rattle.grids.specs.declared.Fit.TheVariants.{Grid, NoGrid, Refused}
 
 -- what a group comes to, in document 01's terms: the grids that it gives, one or none, or a refusal's number
-abbrev pub meaning : Fit → Finding (List SkewedGridLocation)
-meaning (Grid g) = found (g ∷ [])
-meaning NoGrid = found []
-meaning (Refused why) = refused_by why
+abbrev pub meaning : Result (Option SkewedGridLocation) Refusal → Finding (List SkewedGridLocation)
+meaning (Ok (Some g)) = found (g ∷ [])
+meaning (Ok None) = found []
+meaning (Err why) = refused_by why
 
 -- a grid has so many cells along a side, in some version, which need not be one of the standard's forty
 pub record Modules (size : ℕ) : Type 0 where

@@ -10,7 +10,7 @@ ghost use Rattle.grids.specs.Grid.{meaning, Modules, grid_of, refined_grid, set_
 
 use geometry::{Perspective, Sight};
 use points::Point;
-use refine::{Refined, Refinement};
+use refine::Refined;
 use refusals::Refusal;
 
 // Where a grid lies: how many cells it has along a side, and its perspective.
@@ -18,14 +18,6 @@ use refusals::Refusal;
 pub struct SkewedGridLocation {
     pub size: u8,
     pub c: Perspective,
-}
-
-// What a group of stones comes to: a grid, no grid, or a refusal.
-#[derive(Clone, Copy)]
-pub enum Fit {
-    Grid(SkewedGridLocation),
-    NoGrid,
-    Refused(Refusal),
 }
 
 // The version that has so many cells along a side.
@@ -37,27 +29,31 @@ pub fn version_from_grid_size(size: usize) -> usize
 }
 
 // The grid of this size, with the perspective that refinement arrived at.
-fn located(best: Refined, size: usize) -> Fit
+fn located(best: Refined, size: usize) -> Result<Option<SkewedGridLocation>, Refusal>
     requires { GridSize size }
     ensures { meaning result ≡ grid_of size (found best) }
 {
     let c = best.c;
-    Fit::Grid(SkewedGridLocation {
+    Ok(Some(SkewedGridLocation {
         size: size as u8,
         c: c,
-    })
+    }))
 }
 
 // The grid that refinement arrives at from c.
-fn refined(pic: &[u8], width: usize, height: usize, c: Perspective, size: usize) -> Fit
+fn refined(
+    pic: &[u8],
+    width: usize,
+    height: usize,
+    c: Perspective,
+    size: usize,
+) -> Result<Option<SkewedGridLocation>, Refusal>
     requires fact_1 { Sized width height (length pic.now) }
     requires fact_2 { GridSize size }
     ensures { meaning result ≡ refined_grid pic.now width height size c }
 {
-    match refine::jiggle_perspective(pic, width, height, c, size) {
-        Refinement::Done(best) => located(best, size),
-        Refinement::Unplaced => Fit::Refused(Refusal::Unplaced),
-    }
+    let best = refine::jiggle_perspective(pic, width, height, c, size).ok_or(Refusal::Unplaced)?;
+    located(best, size)
 }
 
 // The grid whose corners, seven cells in from its sides, lie at these points: none above version 40, and none where they are flat.
@@ -70,18 +66,18 @@ pub fn setup_perspective(
     p2: Point,
     p3: Point,
     size: usize,
-) -> Fit
+) -> Result<Option<SkewedGridLocation>, Refusal>
     requires fact_1 { Sized width height (length pic.now) }
     requires fact_2 { Modules size }
     ensures { meaning result ≡ set_up pic.now width height size p0 p1 p2 p3 }
 {
     if version_from_grid_size(size) >= 41 {
-        return Fit::NoGrid;
+        return Ok(None);
     }
     let span = (size - 7) as u32;
     let side = span as f64;
     match Perspective::create(p0, p1, p2, p3, side, side) {
         Sight::Made(c) => refined(pic, width, height, c, size),
-        Sight::Flat => Fit::NoGrid,
+        Sight::Flat => Ok(None),
     }
 }

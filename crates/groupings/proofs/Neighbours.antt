@@ -1,4 +1,5 @@
 -- The pairs of a centre, as a ranking lays them out: they are counted, each is of three different stones, and no ranking is refused. Assumes nothing.
+use Rattle.std.specs.Prelude.{Ok, Err}
 use Prim.Native.Nat.{ℕ, ◌-◌, ◌≤◌, ◌<◌}
 use native.Mathlib.Omega.{arith}
 use mathlib.Core.Path.{◌≡◌, sym, ap, ◌∙◌, subst}
@@ -15,7 +16,6 @@ use Rattle.match_capstones.specs.Proper.{Proper}
 use Rattle.match_capstones.specs.Answer.{most_pairs, meaning, pairs_of, ranking, no_pair, counted, laid_out, Tells}
 use Rattle.match_capstones.specs.declared.Pair.{Pair}
 use Rattle.match_capstones.specs.declared.Ranked.{Ranked}
-use Rattle.match_capstones.specs.declared.Ranking.TheVariants.{Pairs, Refused}
 use Rattle.match_capstones.proofs.Refusals.{ranking_found}
 use Rattle.match_capstones.proofs.Pairs.{pairs_proper, pairs_few}
 use Rattle.groupings.specs.Groups.{PairsTried}
@@ -38,10 +38,10 @@ module _ (stones : List CapStone) (n idx : ℕ) (few : n ≤ most_stones) (whole
   proper : All (Proper n idx) pairs
   proper = subst (λ (m : ℕ). All (Proper m idx) pairs) long (pairs_proper (take n stones) idx)
 
-  pub not_refused : (why : Refusal) → r.answer ≡ Refused why → ⊥
+  pub not_refused : (why : Refusal) → r.answer ≡ Err why → ⊥
   not_refused why e = let f = sym t.answer in let g = ap meaning e in let k = ap counted is_found in let z : ◌≡◌ {A = ℕ} 0 1 = cc in absurd (omega arith)
 
-  module _ (count : ℕ) (e : r.answer ≡ Pairs count) where
+  module _ (count : ℕ) (e : r.answer ≡ Ok count) where
     count_is : count ≡ length pairs
     count_is = same_count count (length pairs) (sym (ap meaning e) ∙ t.answer ∙ ap counted is_found)
 

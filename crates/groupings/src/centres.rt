@@ -6,10 +6,11 @@ ghost use Rattle.groupings.specs.Groups.{CentreTried, Grouped};
 ghost use Rattle.groupings.specs.Held.{groups_of, outcome, Laid, Holds, Stones, Counted};
 
 use crate::Groupings;
-use crate::held::{is_sound, is_used, no_groups, refused};
+use crate::held::{is_used, none};
 use crate::pairs::try_pairs;
 use capstones::CapStone;
-use match_capstones::{Ranking, find_and_rank_possible_neighbors};
+use laid::is_sound;
+use match_capstones::find_and_rank_possible_neighbors;
 use table::Table;
 
 // Tries the centre idx of the first n stones.
@@ -35,10 +36,10 @@ fn try_centre(
     let pairs = ranked.pairs;
     let answer = ranked.answer;
     match answer {
-        Ranking::Pairs(count) => try_pairs(
+        Ok(count) => try_pairs(
             pic, width, height, stack, scratch, table, stones, idx, pairs, count, held,
         ),
-        Ranking::Refused(why) => refused(why),
+        Err(why) => none(Err(why)),
     }
 }
 
@@ -56,12 +57,12 @@ pub fn find_groupings(
     requires { Workable pic.now width height (length stack.old) table × (width * height ≤ length scratch.old) × Stones stones n }
     ensures { Grouped pic.now width height table (take n stones) (outcome result) × Laid result × AllRemember pic.now width height result.setups }
 {
-    let mut sofar = no_groups();
+    let mut sofar = none(Ok(()));
     for idx in 0..n {
         sofar = try_centre(
             pic, width, height, stack, scratch, table, stones, n, idx, sofar,
         );
-        if !is_sound(sofar) {
+        if !is_sound(sofar.verdict) {
             return sofar;
         }
     }

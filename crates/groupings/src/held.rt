@@ -1,7 +1,7 @@
 // The groups found so far: which stones they use, and one group more.
 ghost use Rattle.std.specs.Prelude.{◌≡◌, List, [], ◌∷◌, ◌++◌, ℕ, ◌≤◌, ◌<◌, set, replicate};
-ghost use Rattle.refusals.specs.Finding.{found, refused_by};
-ghost use Rattle.laid.specs.Laid.{goes};
+ghost use Rattle.refusals.specs.Finding.{found};
+ghost use Rattle.laid.specs.Laid.{told};
 ghost use Rattle.grids.specs.Grid.{meaning};
 ghost use Rattle.setups.specs.Remember.{no_setup, Remembers, AllRemember};
 ghost use Rattle.groupings.specs.Used.{names, is_used};
@@ -9,22 +9,15 @@ ghost use Rattle.groupings.specs.Groups.{after_trial};
 ghost use Rattle.groupings.specs.Held.{groups_of, outcome, Laid, Holds};
 
 use crate::{Groupings, Trio};
-use grids::Fit;
-use picture::Verdict;
 use refusals::Refusal;
 use setups::{Answer, Setup, no_setups};
 
 // Whether a trio names stone i.
+#[tactic(auto, unfolding(crate::specs::Used::names))]
 fn has(t: Trio, i: usize) -> bool
     ensures { result ≡ names t i }
 {
-    if t.first == i {
-        return true;
-    }
-    if t.second == i {
-        return true;
-    }
-    t.third == i
+    t.first == i || t.second == i || t.third == i
 }
 
 // Whether stone i is used.
@@ -42,20 +35,9 @@ pub fn is_used(held: Groupings, i: usize) -> bool
     false
 }
 
-// Whether nothing is refused so far.
-pub fn is_sound(held: Groupings) -> bool
-    ensures { result ≡ goes held.verdict }
-{
-    let verdict = held.verdict;
-    match verdict {
-        Verdict::Sound => true,
-        Verdict::Refused(_) => false,
-    }
-}
-
-// No groups yet.
-pub fn no_groups() -> Groupings
-    ensures { (outcome result ≡ found []) × Laid result × (result.setups ≡ replicate 31 no_setup) }
+// No groups: none yet, or why there are none.
+pub fn none(verdict: Result<(), Refusal>) -> Groupings
+    ensures { (outcome result ≡ told verdict []) × Laid result × (result.setups ≡ replicate 31 no_setup) }
 {
     let setups = no_setups();
     Groupings {
@@ -66,24 +48,7 @@ pub fn no_groups() -> Groupings
         }; 31],
         setups: setups,
         n: 0,
-        verdict: Verdict::Sound,
-    }
-}
-
-// No groups, but a refusal.
-pub fn refused(why: Refusal) -> Groupings
-    ensures { (outcome result ≡ refused_by why) × Laid result × (result.setups ≡ replicate 31 no_setup) }
-{
-    let setups = no_setups();
-    Groupings {
-        groups: [Trio {
-            first: 0,
-            second: 0,
-            third: 0,
-        }; 31],
-        setups: setups,
-        n: 0,
-        verdict: Verdict::Refused(why),
+        verdict: verdict,
     }
 }
 
@@ -101,7 +66,7 @@ fn with_group(held: Groupings, t: Trio, setup: Setup) -> Groupings
         groups: groups,
         setups: setups,
         n: n + 1,
-        verdict: Verdict::Sound,
+        verdict: Ok(()),
     }
 }
 
@@ -113,8 +78,8 @@ pub fn taken(held: Groupings, t: Trio, answer: Answer) -> Groupings
     let fit = answer.fit;
     let setup = answer.setup;
     match fit {
-        Fit::Grid(_) => with_group(held, t, setup),
-        Fit::NoGrid => held,
-        Fit::Refused(why) => refused(why),
+        Ok(Some(_)) => with_group(held, t, setup),
+        Ok(None) => held,
+        Err(why) => none(Err(why)),
     }
 }

@@ -1,7 +1,7 @@
 // Which stones corner the same symbol: groups of three, each tried on a copy of the picture (prepare.rs, `find_groupings`).
 #![tactic(auto)]
 
-use picture::Verdict;
+use refusals::Refusal;
 use setups::Setup;
 
 mod centres;
@@ -26,5 +26,5 @@ pub struct Groupings {
     pub groups: [Trio; 31],
     pub setups: [Setup; 31],
     pub n: usize,
-    pub verdict: Verdict,
+    pub verdict: Result<(), Refusal>,
 }

@@ -7,11 +7,12 @@ ghost use Rattle.groupings.specs.Used.{group_of};
 ghost use Rattle.groupings.specs.Groups.{PairTried, PairsTried};
 ghost use Rattle.groupings.specs.Held.{groups_of, outcome, Laid, Holds, Beside, Low, Triable};
 
-use crate::held::{is_sound, is_used, taken};
+use crate::held::{is_used, taken};
 use crate::trial::trial;
 use crate::{Groupings, Trio};
 use capstones::CapStone;
 use groups::CapStoneGroup;
+use laid::is_sound;
 use match_capstones::Pair;
 use table::Table;
 
@@ -88,7 +89,7 @@ pub fn try_pairs(
         sofar = try_pair(
             pic, width, height, stack, scratch, table, stones, idx, pair, sofar,
         );
-        if !is_sound(sofar) {
+        if !is_sound(sofar.verdict) {
             return sofar;
         }
     }

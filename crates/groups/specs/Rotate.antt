@@ -1,4 +1,5 @@
 -- A group turned, stone by stone. Taken from the Rust (`from_group`, "Rotate each capstone"). Definitions alone.
+use Rattle.std.specs.Prelude.{Option, Some, None}
 use Rattle.refusals.specs.Finding.{Finding, found, refused, refused_by}
 use Rattle.refusals.specs.declared.Refusal.TheVariants as refusal
 use Rattle.points.specs.Range.{Near}
@@ -8,13 +9,11 @@ use Rattle.groups.specs.Group.{Cornered}
 use Rattle.groups.specs.Turn.{rotated_of}
 use Rattle.groups.specs.declared.CapStoneGroup.{CapStoneGroup}
 use Rattle.groups.specs.declared.Oriented.{Oriented}
-use Rattle.groups.specs.declared.Rotation.{Rotation}
-use Rattle.groups.specs.declared.Rotation.TheVariants.{Group, Turned}
 
 -- an answer in document 01's terms: a group, or 15
-abbrev pub meaning : Rotation → Finding CapStoneGroup
-meaning (Group g) = found g
-meaning Turned = refused_by refusal.Turned
+abbrev pub meaning : Option CapStoneGroup → Finding CapStoneGroup
+meaning (Some g) = found g
+meaning None = refused_by refusal.Turned
 
 -- the corners lie in some picture, and the line in the range of 12
 pub record Turnable (o : Oriented) : Type 0 where

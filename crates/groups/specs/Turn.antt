@@ -1,5 +1,5 @@
 -- A stone turned by a line: corner 0 becomes the one that lies farthest to its left. Taken from the Rust (`rotate_capstone`). Definitions alone.
-use Rattle.std.specs.Prelude.{◌≡◌, cond, List, [], ◌∷◌, ◌++◌, ℤ, ◌<ℤ◌, ◌≤ℤ◌}
+use Rattle.std.specs.Prelude.{◌≡◌, cond, List, [], ◌∷◌, ◌++◌, ℤ, ◌<ℤ◌, ◌≤ℤ◌, Option, Some, None}
 use Rattle.std.specs.Int.Signed.{lt_z}
 use Rattle.refusals.specs.Finding.{Finding, found, refused_by}
 use Rattle.refusals.specs.declared.Refusal.TheVariants as refusal
@@ -12,13 +12,11 @@ use Rattle.geometry.specs.declared.Sight.TheVariants.{Made, Flat}
 use Rattle.capstones.specs.Modules.{seven}
 use Rattle.capstones.specs.declared.CapStone.{CapStone}
 use Rattle.groups.specs.Side.{side_of}
-use Rattle.groups.specs.declared.Rotated.{Rotated}
-use Rattle.groups.specs.declared.Rotated.TheVariants.{Stone, Turned}
 
 -- an answer in document 01's terms: a stone, or 15
-abbrev pub meaning : Rotated → Finding CapStone
-meaning (Stone s) = found s
-meaning Turned = refused_by refusal.Turned
+abbrev pub meaning : Option CapStone → Finding CapStone
+meaning (Some s) = found s
+meaning None = refused_by refusal.Turned
 
 -- the corners turned left: each moves one place down, and corner 0 becomes the last
 unfoldable pub turn : CapStone → CapStone

@@ -29,17 +29,3 @@ pub struct Oriented {
     pub h0: Point,
     pub hd: Point,
 }
-
-// What a stone's rotation answers: the stone, or that its turned corners are flat (refusal 15).
-#[derive(Clone, Copy)]
-pub enum Rotated {
-    Stone(CapStone),
-    Turned,
-}
-
-// What a group's rotation answers: the group, or that the turned corners of one of its stones are flat (refusal 15).
-#[derive(Clone, Copy)]
-pub enum Rotation {
-    Group(CapStoneGroup),
-    Turned,
-}

@@ -3,10 +3,10 @@ ghost use Rattle.std.specs.Prelude.{◌≡◌};
 ghost use Rattle.groups.specs.Rotate.{meaning, Turnable, rotated_group};
 
 use crate::turning::rotate_capstone;
-use crate::{CapStoneGroup, Oriented, Rotated, Rotation};
+use crate::{CapStoneGroup, Oriented};
 
-// Each stone of the group turned by the group's line; 15 where one of them is flat then.
-pub fn rotate_group(o: Oriented) -> Rotation
+// Each stone of the group turned by the group's line; none where one of them is flat then (15).
+pub fn rotate_group(o: Oriented) -> Option<CapStoneGroup>
     requires { Turnable o }
     ensures { meaning result ≡ rotated_group o }
 {
@@ -14,16 +14,10 @@ pub fn rotate_group(o: Oriented) -> Rotation
     let last = group.third;
     let h0 = o.h0;
     let hd = o.hd;
-    let Rotated::Stone(first) = rotate_capstone(group.first, h0, hd) else {
-        return Rotation::Turned;
-    };
-    let Rotated::Stone(second) = rotate_capstone(group.second, h0, hd) else {
-        return Rotation::Turned;
-    };
-    let Rotated::Stone(third) = rotate_capstone(last, h0, hd) else {
-        return Rotation::Turned;
-    };
-    Rotation::Group(CapStoneGroup {
+    let first = rotate_capstone(group.first, h0, hd)?;
+    let second = rotate_capstone(group.second, h0, hd)?;
+    let third = rotate_capstone(last, h0, hd)?;
+    Some(CapStoneGroup {
         first: first,
         second: second,
         third: third,

@@ -6,7 +6,6 @@ ghost use Rattle.groups.specs.Side.{side_of};
 ghost use Rattle.groups.specs.Group.{Framed};
 ghost use Rattle.groups.specs.Turn.{meaning, turn, lefter, turned_by, with_sight, rotated_of};
 
-use crate::Rotated;
 use crate::sides::side_of;
 use capstones::CapStone;
 use geometry::{Perspective, Sight};
@@ -16,19 +15,12 @@ use points::Point;
 fn turn(s: CapStone) -> CapStone
     ensures { result ≡ turn s }
 {
-    let corner0 = s.corner1;
-    let corner1 = s.corner2;
-    let corner2 = s.corner3;
-    let corner3 = s.corner0;
-    let center = s.center;
-    let c = s.c;
     CapStone {
-        corner0: corner0,
-        corner1: corner1,
-        corner2: corner2,
-        corner3: corner3,
-        center: center,
-        c: c,
+        corner0: s.corner1,
+        corner1: s.corner2,
+        corner2: s.corner3,
+        corner3: s.corner0,
+        ..s
     }
 }
 
@@ -64,23 +56,11 @@ fn turned_by(stone: CapStone, h0: Point, hd: Point) -> CapStone
 fn with_sight(s: CapStone, c: Perspective) -> CapStone
     ensures { result ≡ with_sight s c }
 {
-    let corner0 = s.corner0;
-    let corner1 = s.corner1;
-    let corner2 = s.corner2;
-    let corner3 = s.corner3;
-    let center = s.center;
-    CapStone {
-        corner0: corner0,
-        corner1: corner1,
-        corner2: corner2,
-        corner3: corner3,
-        center: center,
-        c: c,
-    }
+    CapStone { c, ..s }
 }
 
-// The stone turned by the line through h0 in the direction hd, seven by seven; 15 where its corners are flat then.
-pub fn rotate_capstone(stone: CapStone, h0: Point, hd: Point) -> Rotated
+// The stone turned by the line through h0 in the direction hd, seven by seven; none where its corners are flat then (15).
+pub fn rotate_capstone(stone: CapStone, h0: Point, hd: Point) -> Option<CapStone>
     requires fact_1 { Framed stone }
     requires fact_2 { Near h0 }
     requires fact_3 { Direction hd }
@@ -88,7 +68,7 @@ pub fn rotate_capstone(stone: CapStone, h0: Point, hd: Point) -> Rotated
 {
     let s = turned_by(stone, h0, hd);
     match Perspective::create(s.corner0, s.corner1, s.corner2, s.corner3, 7.0, 7.0) {
-        Sight::Made(c) => Rotated::Stone(with_sight(s, c)),
-        Sight::Flat => Rotated::Turned,
+        Sight::Made(c) => Some(with_sight(s, c)),
+        Sight::Flat => None,
     }
 }

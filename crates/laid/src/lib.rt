@@ -4,14 +4,14 @@
 ghost use Rattle.std.specs.Prelude.{◌≡◌};
 ghost use Rattle.laid.specs.Laid.{goes};
 
-use picture::Verdict;
+use refusals::Refusal;
 
 // Whether nothing is refused.
-pub fn is_sound(verdict: Verdict) -> bool
+pub fn is_sound(verdict: Result<(), Refusal>) -> bool
     ensures { result ≡ goes verdict }
 {
     match verdict {
-        Verdict::Sound => true,
-        Verdict::Refused(_) => false,
+        Ok(()) => true,
+        Err(_) => false,
     }
 }

@@ -1,4 +1,5 @@
 -- An answer of `line_intersect` says what is true of the two lines, and no other answer does. Assumes nothing.
+use Rattle.std.specs.Prelude.{Option, Some, None}
 use Prim.Native.Nat.{ℕ, zero, suc, ◌<◌}
 use native.Mathlib.Omega.{arith}
 use borrow.Author.Tests.{eqb-true, eqb-false}
@@ -12,8 +13,6 @@ use Rattle.points.specs.declared.Point.{Point}
 use Rattle.sizes.proofs.Size.{size_zero}
 use Rattle.sizes.proofs.Algebra.{same_terms, var, ⊝, ◌⊖◌, ◌⊗◌, equal, no_diff}
 use Rattle.lines.specs.declared.Line.{Line}
-use Rattle.lines.specs.declared.Meet.{Meet}
-use Rattle.lines.specs.declared.Meet.TheVariants.{At, Nowhere}
 use Rattle.lines.specs.Meet.{line_of, det, num_x, num_y, crossing, meet_of}
 use Rattle.lines.specs.Meaning.{Parallel, Cut, Crossing, Said}
 use Rattle.lines.proofs.Cramer.{Solves, on_solves, solves_on, cramer_first, cramer_second, same_x, same_y}
@@ -68,7 +67,7 @@ module _ (p0 p1 q0 q1 : Point) where
   meet_true = go (eqb (nat_abs (det lp lq)) 0) (eqb-true (nat_abs (det lp lq)) 0) (eqb-false (nat_abs (det lp lq)) 0)
     where
       go : (s : Bool) → (s ≡ true → nat_abs (det lp lq) ≡ 0) → (s ≡ false → nat_abs (det lp lq) ≡ 0 → ⊥)
-          → Said p0 p1 q0 q1 (cond s Nowhere (At (record { x = quot_z (num_x lp lq) (det lp lq); y = quot_z (num_y lp lq) (det lp lq) })))
+          → Said p0 p1 q0 q1 (cond s None (Some (record { x = quot_z (num_x lp lq) (det lp lq); y = quot_z (num_y lp lq) (det lp lq) })))
       go true f g = flat_parallel (f refl)
       go false f g =
           let apart : Parallel p0 p1 q0 q1 → ⊥ = λ h. g refl (parallel_flat h) in
@@ -85,11 +84,11 @@ module _ (p0 p1 q0 q1 : Point) where
           }
 
   -- and it is the only one that is
-  pub meet_only : (m n : Meet) → Said p0 p1 q0 q1 m → Said p0 p1 q0 q1 n → m ≡ n
-  meet_only Nowhere Nowhere s t = refl
-  meet_only Nowhere (At r) s t = absurd (t.apart s)
-  meet_only (At r) Nowhere s t = absurd (s.apart t)
-  meet_only (At r) (At u) s t =
+  pub meet_only : (m n : Option Point) → Said p0 p1 q0 q1 m → Said p0 p1 q0 q1 n → m ≡ n
+  meet_only None None s t = refl
+  meet_only None (Some r) s t = absurd (t.apart s)
+  meet_only (Some r) None s t = absurd (s.apart t)
+  meet_only (Some r) (Some u) s t =
       let ex = cut_only (num_x lp lq) (det lp lq) r.x u.x (x_of r s) (x_of u t) in
       let ey = cut_only (num_y lp lq) (det lp lq) r.y u.y (y_of r s) (y_of u t) in
-      λ i. At (record { x = ex i; y = ey i })
+      λ i. Some (record { x = ex i; y = ey i })

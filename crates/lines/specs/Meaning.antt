@@ -1,9 +1,7 @@
 -- What an answer of `line_intersect` means: said of the lines themselves, and not of how their point is found. The source is geometry. Assumes nothing.
-use Rattle.std.specs.Prelude.{◌+◌, ◌*◌, ◌≤◌, ◌<◌, ◌≡◌, T, ℤ, nat_abs, ◌-ℤ◌, ◌*ℤ◌}
+use Rattle.std.specs.Prelude.{◌+◌, ◌*◌, ◌≤◌, ◌<◌, ◌≡◌, T, ℤ, nat_abs, ◌-ℤ◌, ◌*ℤ◌, Option, Some, None}
 use Rattle.std.specs.Int.Signed.{non_neg}
 use Rattle.points.specs.declared.Point.{Point}
-use Rattle.lines.specs.declared.Meet.{Meet}
-use Rattle.lines.specs.declared.Meet.TheVariants.{At, Nowhere}
 
 -- the line through p0 and p1 has the direction of the one through q0 and q1; points that coincide make no line, and count as parallel to any
 abbrev pub Parallel : Point → Point → Point → Point → Type 0
@@ -32,6 +30,6 @@ pub record Crossing (p0 p1 q0 q1 r : Point) : Type 0 where
   pub y_cut : Cut y w r.y
 
 -- what an answer says of the line through p0 and p1 and the one through q0 and q1
-abbrev pub Said : Point → Point → Point → Point → Meet → Type 0
-Said p0 p1 q0 q1 Nowhere = Parallel p0 p1 q0 q1
-Said p0 p1 q0 q1 (At r) = Crossing p0 p1 q0 q1 r
+abbrev pub Said : Point → Point → Point → Point → Option Point → Type 0
+Said p0 p1 q0 q1 None = Parallel p0 p1 q0 q1
+Said p0 p1 q0 q1 (Some r) = Crossing p0 p1 q0 q1 r

@@ -1,11 +1,9 @@
 -- Where two lines meet, as geometry.rs computes it. Assumes nothing.
-use Rattle.std.specs.Prelude.{ℕ, ◌+◌, ◌*◌, ◌≤◌, cond, eqb, ℤ, neg_ℤ, nat_abs, ◌+ℤ◌, ◌-ℤ◌, ◌*ℤ◌}
+use Rattle.std.specs.Prelude.{ℕ, ◌+◌, ◌*◌, ◌≤◌, cond, eqb, ℤ, neg_ℤ, nat_abs, ◌+ℤ◌, ◌-ℤ◌, ◌*ℤ◌, Option, Some, None}
 use Rattle.std.specs.Int.Signed.{quot_z}
 use Rattle.refusals.specs.Limits.{longest_side}
 use Rattle.points.specs.declared.Point.{Point}
 use Rattle.lines.specs.declared.Line.{Line}
-use Rattle.lines.specs.declared.Meet.{Meet}
-use Rattle.lines.specs.declared.Meet.TheVariants.{At, Nowhere}
 
 -- the line a x + b y = e through p and q
 unfoldable pub line_of : Point → Point → Line
@@ -25,12 +23,12 @@ abbrev pub num_y : Line → Line → ℤ
 num_y l m = neg_ℤ m.a *ℤ l.e +ℤ l.a *ℤ m.e
 
 -- nowhere where the determinant is 0, else Cramer's quotients, each cut toward zero
-unfoldable pub crossing : Line → Line → Meet
+unfoldable pub crossing : Line → Line → Option Point
 crossing l m =
-    cond (eqb (nat_abs (det l m)) 0) Nowhere
-    (At (record { x = quot_z (num_x l m) (det l m); y = quot_z (num_y l m) (det l m) }))
+    cond (eqb (nat_abs (det l m)) 0) None
+    (Some (record { x = quot_z (num_x l m) (det l m); y = quot_z (num_y l m) (det l m) }))
 
-unfoldable pub meet_of : Point → Point → Point → Point → Meet
+unfoldable pub meet_of : Point → Point → Point → Point → Option Point
 meet_of p0 p1 q0 q1 = crossing (line_of p0 p1) (line_of q0 q1)
 
 -- two products of coordinates of a picture, and their sum

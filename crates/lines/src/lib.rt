@@ -8,13 +8,6 @@ ghost use Rattle.lines.specs.Meet.{Small, line_of, crossing, meet_of};
 use points::Point;
 use sizes::{cross, diff, dot, opposite};
 
-// Where two lines meet. Parallel lines, and a line that is a point, meet nowhere.
-#[derive(Clone, Copy)]
-pub enum Meet {
-    At(Point),
-    Nowhere,
-}
-
 // The line a x + b y = e: (a, b) stands at right angles to it.
 #[derive(Clone, Copy)]
 struct Line {
@@ -45,7 +38,7 @@ fn over(n: i32, d: i32) -> i32
 }
 
 // Solves the equations of two lines by the inverse of their matrix.
-fn solve(l: Line, m: Line) -> Meet
+fn solve(l: Line, m: Line) -> Option<Point>
     requires fact_1 { Small l }
     requires fact_2 { Small m }
     ensures { result ≡ crossing l m }
@@ -58,15 +51,15 @@ fn solve(l: Line, m: Line) -> Meet
     let f = m.e;
     let det = cross(a, d, b, c);
     if det == 0 {
-        return Meet::Nowhere;
+        return None;
     }
     let x = over(cross(d, e, b, f), det);
     let y = over(dot(opposite(c), e, a, f), det);
-    Meet::At(Point { x: x, y: y })
+    Some(Point { x: x, y: y })
 }
 
 // Where the line through p0 and p1 meets the one through q0 and q1, each coordinate cut toward zero.
-pub fn line_intersect(p0: Point, p1: Point, q0: Point, q1: Point) -> Meet
+pub fn line_intersect(p0: Point, p1: Point, q0: Point, q1: Point) -> Option<Point>
     requires fact_1 { Within p0 }
     requires fact_2 { Within p1 }
     requires fact_3 { Within q0 }

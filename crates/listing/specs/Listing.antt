@@ -1,8 +1,10 @@
 -- All that `locate` prints: document 01, "Program `locate`". Definitions alone.
-use Rattle.std.specs.Prelude.{ℕ, List, [], ◌∷◌, ◌++◌, length}
+use Rattle.std.specs.Prelude.{ℕ, ◌≤◌, Result, Ok, Err, List, [], ◌∷◌, ◌++◌, length}
 use Rattle.refusals.specs.Finding.{Finding, found, refused}
+use Rattle.refusals.specs.declared.Refusal.{Refusal}
 use Rattle.bounds.specs.declared.Grid.{Grid}
 use Rattle.detect.specs.Telling.{Telling}
+use Rattle.detect.specs.declared.Findings.{Findings}
 use Rattle.report.specs.Lines.{refused_line, count_lines, grid_line}
 use Rattle.report.specs.declared.Line.{Line}
 
@@ -19,3 +21,8 @@ grid_lines (g ∷ more) = grid_line (line_of g) ++ grid_lines more
 unfoldable pub listing : Finding Telling → List ℕ
 listing (found t) = count_lines t.stones (length t.grids) ++ grid_lines t.grids
 listing (refused n) = refused_line n
+
+-- where any are told, there are 31 grids at most
+abbrev pub Few : Result Findings Refusal → Type 0
+Few (Ok f) = f.n ≤ 31
+Few (Err why) = Unit {0}

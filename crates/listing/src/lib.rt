@@ -5,12 +5,11 @@ ghost use Rattle.std.specs.Prelude.{◌≡◌, ◌+◌, ◌*◌, ◌≤◌, leng
 ghost use Rattle.refusals.specs.Finding.{found};
 ghost use Rattle.report.specs.Puts.{Puts};
 ghost use Rattle.detect.specs.Telling.{tells, outcome};
-ghost use Rattle.listing.specs.Listing.{line_of, grid_lines, listing};
+ghost use Rattle.listing.specs.Listing.{line_of, grid_lines, listing, Few};
 
 use bounds::Grid;
 use detect::Findings;
-use picture::Verdict;
-use refusals::number_of;
+use refusals::Refusal;
 use report::{Line, put_counts, put_grid, put_refused};
 
 // What is told of a grid.
@@ -55,14 +54,12 @@ fn put_found(stones: usize, grids: [Grid; 31], n: usize, out: &mut [u8]) -> usiz
 }
 
 // What was found, or why there is a refusal. The longest text has 58 bytes of counts, and 31 lines.
-pub fn put_findings(findings: Findings, out: &mut [u8]) -> usize
-    requires { (findings.n ≤ 31) × (7374 ≤ length out.old) }
+pub fn put_findings(findings: Result<Findings, Refusal>, out: &mut [u8]) -> usize
+    requires { Few findings × (7374 ≤ length out.old) }
     ensures { Puts 7374 (listing (outcome findings)) out.old 0 out.new result }
 {
-    let grids = findings.grids;
-    let verdict = findings.verdict;
-    match verdict {
-        Verdict::Sound => put_found(findings.stones, grids, findings.n, out),
-        Verdict::Refused(why) => put_refused(number_of(why), out, 0),
+    match findings {
+        Ok(found) => put_found(found.stones, found.grids, found.n, out),
+        Err(why) => put_refused(u8::from(why), out, 0),
     }
 }

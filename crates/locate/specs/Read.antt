@@ -1,9 +1,9 @@
 -- What is read: no contract can say which bytes a call of C's reads, so each says that there are such bytes. Definitions alone.
-use Rattle.std.specs.Prelude.{ℕ, ◌≡◌, Bool, List, ltb, length}
+use Rattle.std.specs.Prelude.{ℕ, ◌≡◌, Bool, List, ltb, length, Option}
 use Rattle.netpbm.specs.Reads.{GoesOn}
 use Rattle.netpbm.specs.Told.{meaning, Told}
 use Rattle.netpbm.specs.declared.Reader.{Reader}
-use Rattle.netpbm.specs.declared.Input.{Input}
+use Rattle.netpbm.specs.declared.Sides.{Sides}
 
 -- a read asks for so many bytes
 abbrev pub asked : ℕ
@@ -16,6 +16,6 @@ pub record ReadOn (before : List ℕ) (reader : Reader) (after : List ℕ) (next
   pub short : last ≡ ltb (length chunk) asked
 
 -- the bytes of a file were read, and this is what is told of it: its sides and its pixels, or 17
-pub record Read (pixels : List ℕ) (answer : Input) : Type 0 where
+pub record Read (pixels : List ℕ) (answer : Option Sides) : Type 0 where
   pub file : List ℕ
   pub told : Told file (meaning pixels answer)

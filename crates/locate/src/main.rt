@@ -19,13 +19,6 @@ fn room() -> [u8; 16384]
     [0u8; 16384]
 }
 
-// Room for the text that is printed, or for the next bytes of the input.
-fn large_buffer() -> [u8; 65536]
-    ensures { 65536 ≡ length result }
-{
-    [0u8; 65536]
-}
-
 // Reads the input, and makes the text that is printed of it.
 fn respond<R: Read>(input: &mut R, out: &mut [u8]) -> usize
     requires { 7374 ≤ length out.old }
@@ -38,7 +31,7 @@ fn respond<R: Read>(input: &mut R, out: &mut [u8]) -> usize
 
 // Writes that text.
 fn main(rt: HostRuntime) -> io::Result<()> {
-    let mut out = large_buffer();
+    let mut out = [0u8; 65536];
     let n = respond(&mut rt.stdin(), &mut out);
     rt.stdout().write_all(&out[..n])
 }

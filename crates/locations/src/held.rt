@@ -1,27 +1,15 @@
 // The grids located so far, and one more.
 ghost use Rattle.std.specs.Prelude.{◌≡◌, [], ◌∷◌, ◌++◌, ◌+◌, ◌≤◌, ◌<◌, replicate};
-ghost use Rattle.refusals.specs.Finding.{found, refused_by};
+ghost use Rattle.refusals.specs.Finding.{found};
 ghost use Rattle.grids.specs.Grid.{meaning};
-ghost use Rattle.laid.specs.Laid.{goes, added};
+ghost use Rattle.laid.specs.Laid.{told, added};
 ghost use Rattle.locations.specs.Held.{no_location, locations_of, outcome_of, LaidOut, Held};
 
 use crate::Locations;
 use capstones::blank;
-use grids::{Fit, SkewedGridLocation};
-use picture::Verdict;
+use grids::SkewedGridLocation;
 use refusals::Refusal;
 use table::Table;
-
-// Whether nothing is refused so far.
-pub fn is_sound(held: Locations) -> bool
-    ensures { result ≡ goes held.verdict }
-{
-    let verdict = held.verdict;
-    match verdict {
-        Verdict::Sound => true,
-        Verdict::Refused(_) => false,
-    }
-}
 
 // An array of blank locations.
 fn blanks() -> [SkewedGridLocation; 31]
@@ -32,29 +20,16 @@ fn blanks() -> [SkewedGridLocation; 31]
     [SkewedGridLocation { size: 0, c: c }; 31]
 }
 
-// No grid yet.
-pub fn no_locations(table: Table) -> Locations
-    ensures { (outcome_of result ≡ found []) × LaidOut result × (result.table ≡ table) }
+// No grid: none yet, or why there is none.
+pub fn none(verdict: Result<(), Refusal>, table: Table) -> Locations
+    ensures { (outcome_of result ≡ told verdict []) × LaidOut result × (result.table ≡ table) × (result.n ≡ 0) }
 {
     let all = blanks();
     Locations {
         all: all,
         n: 0,
         table: table,
-        verdict: Verdict::Sound,
-    }
-}
-
-// No grid, but a refusal.
-fn refused(why: Refusal, table: Table) -> Locations
-    ensures { (outcome_of result ≡ refused_by why) × LaidOut result × (result.table ≡ table) × (result.n ≡ 0) }
-{
-    let all = blanks();
-    Locations {
-        all: all,
-        n: 0,
-        table: table,
-        verdict: Verdict::Refused(why),
+        verdict: verdict,
     }
 }
 
@@ -70,7 +45,7 @@ fn with_grid(held: Locations, grid: SkewedGridLocation, table: Table) -> Locatio
         all: all,
         n: n + 1,
         table: table,
-        verdict: Verdict::Sound,
+        verdict: Ok(()),
     }
 }
 
@@ -84,18 +59,22 @@ fn with_table(held: Locations, table: Table) -> Locations
         all: all,
         n: held.n,
         table: table,
-        verdict: Verdict::Sound,
+        verdict: Ok(()),
     }
 }
 
 // The grids after a group: one more, none, or a refusal.
-pub fn taken(held: Locations, fit: Fit, table: Table) -> Locations
+pub fn taken(
+    held: Locations,
+    fit: Result<Option<SkewedGridLocation>, Refusal>,
+    table: Table,
+) -> Locations
     requires { Held held × (held.n < 31) }
     ensures { (outcome_of result ≡ added (locations_of held) (meaning fit)) × LaidOut result × (result.table ≡ table) × (result.n ≤ held.n + 1) }
 {
     match fit {
-        Fit::Grid(grid) => with_grid(held, grid, table),
-        Fit::NoGrid => with_table(held, table),
-        Fit::Refused(why) => refused(why, table),
+        Ok(Some(grid)) => with_grid(held, grid, table),
+        Ok(None) => with_table(held, table),
+        Err(why) => none(Err(why), table),
     }
 }

@@ -2,7 +2,7 @@
 #![tactic(auto)]
 
 use grids::SkewedGridLocation;
-use picture::Verdict;
+use refusals::Refusal;
 use table::Table;
 
 mod held;
@@ -16,5 +16,5 @@ pub struct Locations {
     pub all: [SkewedGridLocation; 31],
     pub n: usize,
     pub table: Table,
-    pub verdict: Verdict,
+    pub verdict: Result<(), Refusal>,
 }

@@ -6,10 +6,11 @@ ghost use Rattle.locations.specs.Held.{outcome_of, LaidOut, Held};
 ghost use Rattle.locations.specs.Pass.{Ready, AllReady, FitsOne, FitsAll};
 
 use crate::Locations;
-use crate::held::{is_sound, no_locations, taken};
+use crate::held::{none, taken};
 use capstones::CapStone;
 use fit::refit;
 use groupings::{Trio, group_of};
+use laid::is_sound;
 use setups::Setup;
 use table::Table;
 
@@ -51,12 +52,12 @@ pub fn fit_all(
     requires { Workable pic.old width height (length stack.old) table × (n ≤ 31) × AllReady stones groups n × AllRemember pic.old width height setups }
     ensures { FitsAll width height stones (take n groups) pic.old table [] (outcome_of result) pic.new result.table × LaidOut result }
 {
-    let mut sofar = no_locations(table);
+    let mut sofar = none(Ok(()), table);
     for k in 0..n {
         let t = groups[k];
         let setup = setups[k];
         sofar = fit_one(pic, width, height, stack, stones, t, setup, sofar);
-        if !is_sound(sofar) {
+        if !is_sound(sofar.verdict) {
             return sofar;
         }
     }

@@ -7,6 +7,7 @@ ghost use Rattle.regions.specs.Found.{meaning};
 ghost use Rattle.regions.specs.Lookup.{LookPost};
 ghost use Rattle.lookup.specs.Newest.{newest_of};
 
+use refusals::Refusal;
 use regions::ColoredRegion;
 use table::{Entry, Table};
 
@@ -45,7 +46,7 @@ pub fn look_up(
     table: &mut Table,
     x: usize,
     y: usize,
-) -> ColoredRegion
+) -> Result<ColoredRegion, Refusal>
     ensures { LookPost pic.old width height (length stack.old) table.old x y (meaning result) pic.new table.new }
 {
     let looked = regions::look_up(pic, width, height, stack, *table, x, y);

@@ -1,4 +1,5 @@
 -- How a scan of a picture goes from line to line. Assumes nothing.
+use Rattle.std.specs.Prelude.{Some, None}
 use Prim.Native.Nat.{ℕ, zero, suc, ◌+◌, ◌-◌, ◌*◌, ◌≤◌, ◌<◌}
 use native.Mathlib.Numerals.{add-one}
 use native.Mathlib.Omega.{arith}
@@ -8,13 +9,11 @@ use mathlib.Core.List.{List, [], ◌++◌}
 use Rattle.scanner.specs.Cuts.{line_cuts}
 use Rattle.scanner.specs.Lines.{some, next_line}
 use Rattle.scanner.specs.Scan.{begun, OnLine, Comes, to_cut, to_end}
-use Rattle.scanner.specs.declared.Advanced.TheVariants as advanced
 use Rattle.scanner.specs.declared.LinePosition.{LinePosition}
 use Rattle.scanner.specs.declared.LineScanner.{LineScanner}
 use Rattle.scanner.proofs.Ahead.{begins, begun_on}
 use Rattle.scanner.proofs.NextLine.{none_on}
 use Rattle.marks.specs.Cuts.{places_on, cuts_from, cuts_after, Reaches, next_cut, no_cut}
-use Rattle.marks.specs.declared.cuts.Cutting.TheVariants.{At, Done}
 
 -- a line, and those below it
 lines_from : (p : List ℕ) (w h y : ℕ) → y < h → cuts_from p w (h - y) y ≡ places_on y (line_cuts p (y * w) w) ++ cuts_from p w (h - (y + 1)) (y + 1)
@@ -64,13 +63,13 @@ module _ {p : List ℕ} {w h y : ℕ} {scan : LineScanner} where
   pending_begun low on = record { on = on; within = omega arith; still = λ _. refl; none = λ past. absurd (omega arith) }
 
   module _ {to : ℕ} {next : LineScanner} (P : Pending p w h y scan to next) where
-    pub pending_ends : h ≤ to → Reaches p w h y scan Done
+    pub pending_ends : h ≤ to → Reaches p w h y scan None
     pending_ends past = no_cut (P.none past)
 
-    pub pending_cut : {at : LinePosition} {on : LineScanner} → to < h → Comes p (to * w) w next (advanced.Cut at on) → Reaches p w h y scan (At to at on)
+    pub pending_cut : {at : LinePosition} {on : LineScanner} → to < h → Comes p (to * w) w next (Some (at, on)) → Reaches p w h y scan (Some (to, at, on))
     pending_cut low (to_cut at on e line) = next_cut to at on low line (P.still low ∙ ap (λ (l : List LinePosition). places_on to l ++ cuts_from p w (h - (to + 1)) (to + 1)) e)
 
-    pub pending_down : {line : ℕ} {first : LineScanner} → to < h → Comes p (to * w) w next advanced.Done → line ≡ next_line p w (h - (to + 1)) (to + 1) → first ≡ begun → Pending p w h y scan line first
+    pub pending_down : {line : ℕ} {first : LineScanner} → to < h → Comes p (to * w) w next None → line ≡ next_line p w (h - (to + 1)) (to + 1) → first ≡ begun → Pending p w h y scan line first
     pending_down {line} {first} low (to_end e) is new =
         let Q : Passes p w (h - (to + 1)) (to + 1) line = rw is (passes p w (h - (to + 1)) (to + 1)) in
         let below : (to + 1 + (h - (to + 1))) - line ≡ h - line = omega (arith, low) in

@@ -1,4 +1,6 @@
 -- A search keeps the picture in work, and goes on from cut to cut. Assumes nothing.
+use Rattle.std.specs.Prelude.{Option, Some, None, Result, Ok, Err}
+use Rattle.refusals.specs.declared.Refusal.{Refusal}
 use Prim.Native.Nat.{ℕ, zero, suc, ◌+◌, ◌-◌, ◌*◌, ◌≤◌, ◌<◌}
 use native.Mathlib.Omega.{arith}
 use mathlib.Core.Path.{◌≡◌, refl, sym, ap, ◌∙◌, subst}
@@ -11,8 +13,6 @@ use borrow.Author.Tests.{leb-false}
 use Rattle.refusals.specs.Limits.{most_stones}
 use Rattle.refusals.specs.Finding.{Finding, found, refused, refused_by}
 use Rattle.refusals.specs.declared.Refusal.TheVariants as refusal
-use Rattle.picture.specs.declared.Verdict.{Verdict}
-use Rattle.picture.specs.declared.Verdict.TheVariants.{Sound, Refused}
 use Rattle.points.specs.declared.Point.{Point}
 use Rattle.geometry.specs.Create.{sight_of}
 use Rattle.geometry.specs.Map.{mapped}
@@ -39,8 +39,6 @@ use Rattle.capstones.specs.declared.CapStone.{CapStone}
 use Rattle.marks.specs.InWork.{InWork, AtCut}
 use Rattle.marks.specs.Stone.{placed_stone, centred_stone, seen_stone, stone_of}
 use Rattle.marks.specs.Cuts.{Place, places_on, cuts_from, all_cuts, cuts_after, Reaches, next_cut, no_cut}
-use Rattle.marks.specs.declared.cuts.Cutting.{Cutting}
-use Rattle.marks.specs.declared.cuts.Cutting.TheVariants.{At, Done}
 use Rattle.marks.specs.Search.{Tries, no_ring, ring, Searches, finished, tried, stopped, stones_of, outcome, Laid}
 use Rattle.marks.specs.declared.search.Marks.{Marks}
 use Rattle.marks.proofs.Work.{Goes, goes_on, goes_still}
@@ -158,12 +156,12 @@ pub found_stones : (s : Marks) (l : List CapStone) → outcome s ≡ found l →
 unfolding told
 found_stones s l e = go s.verdict (stones_of s) e
   where
-    go : (v : Verdict) (k : List CapStone) → told v k ≡ found l → (told v k ≡ found k) × (k ≡ l)
-    go Sound k e = (refl, (cc))
-    go (Refused why) k e = let z : ◌≡◌ {A = ℕ} 0 1 = cc in absurd (omega arith)
+    go : (v : Result (Unit {0}) Refusal) (k : List CapStone) → told v k ≡ found l → (told v k ≡ found k) × (k ≡ l)
+    go (Ok u) k e = (refl, (cc))
+    go (Err why) k e = let z : ◌≡◌ {A = ℕ} 0 1 = cc in absurd (omega arith)
 
 -- what a scan of the picture comes to, by its case
-pub reached : {p : List ℕ} {w h y : ℕ} {scan : LineScanner} {a b : Cutting} → a ≡ b → Reaches p w h y scan a → Reaches p w h y scan b
+pub reached : {p : List ℕ} {w h y : ℕ} {scan : LineScanner} {a b : (Option (ℕ × LinePosition × LineScanner))} → a ≡ b → Reaches p w h y scan a → Reaches p w h y scan b
 reached {p} {w} {h} {y} {scan} e C = subst (Reaches p w h y scan) e C
 
 -- the cuts of a picture are those of one that is dark at the same places
@@ -214,24 +212,24 @@ module _ {p0 : List ℕ} {w h : ℕ} where
     same_cuts : (z : ℕ) (t : LineScanner) → cuts_after p0 w h z t ≡ cuts_after p w h z t
     same_cuts z t = rw (ahead_alike p0 p (z * w) (A.goes.alike (z * w)) w t, cuts_alike p0 p w A.goes.alike (h - (z + 1)) (z + 1))
 
-    pub over_ends : Reaches p w h y scan Done → Searches w h (all_cuts p0 w h) p0 T0 [] (outcome s) p s.table
+    pub over_ends : Reaches p w h y scan None → Searches w h (all_cuts p0 w h) p0 T0 [] (outcome s) p s.table
     over_ends (no_cut none) =
         let left : cuts_after p0 w h y scan ≡ [] = same_cuts y scan ∙ none in
         rw A.going (A.then _ _ _ (rw left finished))
 
     module _ {line : ℕ} {at : LinePosition} {next : LineScanner} where
-      met : Reaches p w h y scan (At line at next) → Met p0 w h y scan line at next
+      met : Reaches p w h y scan (Some (line, at, next)) → Met p0 w h y scan line at next
       met (next_cut _ _ _ low on e) = record { low = low; on = on; is = same_cuts y scan ∙ e ∙ ap (λ (l : List Place). place line at ∷ l) (sym (same_cuts line next)) }
 
-      pub over_less : Reaches p w h y scan (At line at next) → length (cuts_after p0 w h line next) < length (cuts_after p0 w h y scan)
+      pub over_less : Reaches p w h y scan (Some (line, at, next)) → length (cuts_after p0 w h line next) < length (cuts_after p0 w h y scan)
       over_less C = rw (met C).is (omega arith)
 
-      pub over_asks : Reaches p w h y scan (At line at next) → AtCut p w h lent s.table line at
+      pub over_asks : Reaches p w h y scan (Some (line, at, next)) → AtCut p w h lent s.table line at
       over_asks C =
           let here : Mem (place line at) (cuts_after p0 w h y scan) = rw (met C).is (inl refl) in
           record { work = A.goes.work; in_y = (met C).low; columns = still_dark (A.goes.alike (line * w)) (A.each (place line at) here).columns }
 
-      module _ {q : List ℕ} {r : Marks} (C : Reaches p w h y scan (At line at next)) (K : Takes p w h line at s q r) where
+      module _ {q : List ℕ} {r : Marks} (C : Reaches p w h y scan (Some (line, at, next))) (K : Takes p w h line at s q r) where
         -- the cut is tried after as many stones as there are
         counted : {f : Finding (List CapStone)} → Tries p w h line at s.table s.n f q r.table → Tries p w h line at s.table (length (stones_of s)) f q r.table
         counted {f} X = subst (λ (n : ℕ). Tries p w h line at s.table n f q r.table) (held_count most_stones no_stone (record { laid = A.laid; going = A.going })) X

@@ -1,11 +1,9 @@
 -- The cuts of a picture, in the order of the search, and what a scan of the picture comes to. Definitions alone.
-use Rattle.std.specs.Prelude.{ℕ, zero, suc, ◌+◌, ◌-◌, ◌*◌, ◌<◌, ◌≡◌, List, [], ◌∷◌, ◌++◌, map}
+use Rattle.std.specs.Prelude.{ℕ, zero, suc, ◌+◌, ◌-◌, ◌*◌, ◌<◌, ◌≡◌, List, [], ◌∷◌, ◌++◌, map, Option, Some, None}
 use Rattle.scanner.specs.Cuts.{line_cuts}
 use Rattle.scanner.specs.Scan.{ahead, OnLine}
 use Rattle.scanner.specs.declared.LinePosition.{LinePosition}
 use Rattle.scanner.specs.declared.LineScanner.{LineScanner}
-use Rattle.marks.specs.declared.cuts.Cutting.{Cutting}
-use Rattle.marks.specs.declared.cuts.Cutting.TheVariants.{At, Done}
 
 -- a cut, and the line that it is on
 pub record Place : Type 0 where
@@ -29,6 +27,6 @@ abbrev pub cuts_after : List ℕ → ℕ → ℕ → ℕ → LineScanner → Lis
 cuts_after p w h y scan = places_on y (ahead p (y * w) w scan) ++ cuts_from p w (h - (y + 1)) (y + 1)
 
 -- what a scan of the picture comes to: the first cut that is ahead, with a scan that has the others ahead; or the end, where there is none
-pub data Reaches (p : List ℕ) (w h y : ℕ) (scan : LineScanner) : Cutting → Type 0 where
-  next_cut : (line : ℕ) (at : LinePosition) (next : LineScanner) → line < h → OnLine w next → cuts_after p w h y scan ≡ record { line = line; cut = at } ∷ cuts_after p w h line next → Reaches p w h y scan (At line at next)
-  no_cut : cuts_after p w h y scan ≡ [] → Reaches p w h y scan Done
+pub data Reaches (p : List ℕ) (w h y : ℕ) (scan : LineScanner) : Option (ℕ × LinePosition × LineScanner) → Type 0 where
+  next_cut : (line : ℕ) (at : LinePosition) (next : LineScanner) → line < h → OnLine w next → cuts_after p w h y scan ≡ record { line = line; cut = at } ∷ cuts_after p w h line next → Reaches p w h y scan (Some (line, at, next))
+  no_cut : cuts_after p w h y scan ≡ [] → Reaches p w h y scan None

@@ -1,5 +1,6 @@
 -- A mark's stone: document 01, "Marks"; the order of the corners is taken from the Rust, and the refusals come as 13, 12, 11. Definitions alone.
-use Rattle.std.specs.Prelude.{ℕ, ◌≤◌, ◌≡◌, List, [], ◌∷◌, leb, length}
+use Rattle.std.specs.Prelude.{ℕ, ◌≤◌, ◌≡◌, List, [], ◌∷◌, leb, length, Option, Some, None, Result, Ok, Err}
+use Rattle.refusals.specs.declared.Refusal.{Refusal}
 use Rattle.refusals.specs.Limits.{most_stones}
 use Rattle.refusals.specs.Finding.{Finding, found, refused, refused_by}
 use Rattle.refusals.specs.First.{Test, ◌when◌, first}
@@ -21,14 +22,12 @@ use Rattle.corners.specs.Finders.{first_corner_from, first_corner_sees, all_corn
 use Rattle.corners.specs.declared.all_corners.AllCornerFinder.{AllCornerFinder}
 use Rattle.capstones.specs.Modules.{seven, middle}
 use Rattle.capstones.specs.declared.CapStone.{CapStone}
-use Rattle.marks.specs.declared.stone.Mark.{Mark}
-use Rattle.marks.specs.declared.stone.Mark.TheVariants.{Stone, Dropped, Refused}
 
 -- what a cut comes to, in document 01's terms: the stones that it adds, one or none, or a refusal's number
-abbrev pub meaning : Mark → Finding (List CapStone)
-meaning (Stone s) = found (s ∷ [])
-meaning Dropped = found []
-meaning (Refused why) = refused_by why
+abbrev pub meaning : Result (Option CapStone) Refusal → Finding (List CapStone)
+meaning (Ok (Some s)) = found (s ∷ [])
+meaning (Ok None) = found []
+meaning (Err why) = refused_by why
 
 abbrev pub stone : Point → Point → Point → Point → Point → Perspective → CapStone
 stone p0 p1 p2 p3 center c = record { corner0 = p0; corner1 = p1; corner2 = p2; corner3 = p3; center = center; c = c }

@@ -4,14 +4,7 @@ ghost use Rattle.picture.specs.Sides.{Sized};
 ghost use Rattle.scanner.specs.Scan.{OnLine};
 ghost use Rattle.marks.specs.Cuts.{Reaches};
 
-use scanner::{Advanced, LinePosition, LineScanner, next_line};
-
-// What a scan of the picture comes to: a cut, with its line and the scan that goes on from it, or the end.
-#[derive(Clone, Copy)]
-pub enum Cutting {
-    At(usize, LinePosition, LineScanner),
-    Done,
-}
+use scanner::{LinePosition, LineScanner, next_line};
 
 // The next cut, from a scan of the line `start` on; lines without a cut are passed over.
 pub fn next_cut(
@@ -20,23 +13,24 @@ pub fn next_cut(
     height: usize,
     start: usize,
     first: LineScanner,
-) -> Cutting
+) -> Option<(usize, LinePosition, LineScanner)>
     requires { Sized width height (length pic.now) × (start < height) × OnLine width first }
     ensures { Reaches pic.now width height start first result }
 {
     let mut y = start;
     let mut scan = first;
+    // A loop with no counter: each turn goes on to the next line that has a cut, however far that is.
     while y < height {
         let base = y * width;
         match scan.advance(pic, base, width) {
-            Advanced::Cut(at, next) => {
-                return Cutting::At(y, at, next);
+            Some((at, next)) => {
+                return Some((y, at, next));
             }
-            Advanced::Done => {
+            None => {
                 y = next_line(pic, width, height, y + 1);
                 scan = LineScanner::new();
             }
         }
     }
-    Cutting::Done
+    None
 }

@@ -10,4 +10,4 @@ mod stone;
 pub use bitmap::search_bitmap;
 pub use ring::is_capstone;
 pub use search::{Marks, capstones_from_image};
-pub use stone::{Mark, create_capstone};
+pub use stone::create_capstone;

@@ -5,6 +5,7 @@ ghost use Rattle.pieces.specs.Picture.{px};
 ghost use Rattle.regions.specs.Found.{meaning};
 ghost use Rattle.marks.specs.Ring.{Countable, Counted, Testable, suits, paired, passes};
 
+use refusals::Refusal;
 use regions::{ColoredRegion, Region};
 use rings::is_ring_like;
 use scanner::LinePosition;
@@ -21,18 +22,18 @@ fn is_suited(outer: Region, inner: Region) -> bool
 }
 
 // Whether two lookups give an unclaimed ring and an unclaimed stone that suits it.
-fn is_pair(outer: ColoredRegion, inner: ColoredRegion) -> bool
+fn is_pair(outer: Result<ColoredRegion, Refusal>, inner: Result<ColoredRegion, Refusal>) -> bool
     requires { Countable (meaning outer) × Countable (meaning inner) }
     ensures { result ≡ paired (meaning outer) (meaning inner) }
 {
     match outer {
-        ColoredRegion::Unclaimed(ring) => match inner {
-            ColoredRegion::Unclaimed(stone) => is_suited(ring, stone),
-            ColoredRegion::Claimed(_) => false,
-            ColoredRegion::Refused(_) => false,
+        Ok(ColoredRegion::Unclaimed(ring)) => match inner {
+            Ok(ColoredRegion::Unclaimed(stone)) => is_suited(ring, stone),
+            Ok(ColoredRegion::Claimed(_)) => false,
+            Err(_) => false,
         },
-        ColoredRegion::Claimed(_) => false,
-        ColoredRegion::Refused(_) => false,
+        Ok(ColoredRegion::Claimed(_)) => false,
+        Err(_) => false,
     }
 }
 
@@ -52,8 +53,8 @@ pub fn is_capstone(
     height: usize,
     cut: LinePosition,
     y: usize,
-    ring: ColoredRegion,
-    stone: ColoredRegion,
+    ring: Result<ColoredRegion, Refusal>,
+    stone: Result<ColoredRegion, Refusal>,
 ) -> bool
     requires { Testable pic.now width height y cut (meaning ring) (meaning stone) }
     ensures { result ≡ passes pic.now width y cut (meaning ring) (meaning stone) }

@@ -1,18 +1,17 @@
 // The search for marks: cut by cut, from top to bottom (detect.rs, `capstones_from_image`).
-ghost use Rattle.std.specs.Prelude.{◌≡◌, [], ◌∷◌, ◌++◌, ◌<◌, length, replicate};
-ghost use Rattle.capstones.specs.Blank.{no_stone};
-ghost use Rattle.refusals.specs.Finding.{found, refused_by};
+ghost use Rattle.std.specs.Prelude.{◌≡◌, [], ◌∷◌, ◌++◌, ◌<◌, length};
+ghost use Rattle.refusals.specs.Finding.{found};
+ghost use Rattle.laid.specs.Laid.{told};
 ghost use Rattle.capstones.specs.declared.CapStone.{CapStone};
 ghost use Rattle.regions.specs.Found as regions;
 ghost use Rattle.marks.specs.InWork.{InWork};
 ghost use Rattle.marks.specs.Stone.{meaning};
 ghost use Rattle.marks.specs.Search.{Markable, Marked, all_cuts, Searches, stones_of, outcome, Laid};
 
-use crate::cuts::{Cutting, next_cut};
+use crate::cuts::next_cut;
 use crate::ring::is_capstone;
-use crate::stone::{Mark, create_capstone};
-use capstones::{CapStone, blank};
-use picture::Verdict;
+use crate::stone::create_capstone;
+use capstones::{CapStone, blanks};
 use refusals::Refusal;
 use regions::{ColoredRegion, get_region};
 use scanner::{LinePosition, LineScanner};
@@ -24,7 +23,7 @@ pub struct Marks {
     pub stones: [CapStone; 64],
     pub n: usize,
     pub table: Table,
-    pub verdict: Verdict,
+    pub verdict: Result<(), Refusal>,
 }
 
 // What a cut of line y comes to, after n stones, once its ring and its stone are looked up: nothing where the ring test fails.
@@ -35,15 +34,15 @@ fn mark_at(
     stack: &mut [u32],
     cut: LinePosition,
     y: usize,
-    ring: ColoredRegion,
-    stone: ColoredRegion,
+    ring: Result<ColoredRegion, Refusal>,
+    stone: Result<ColoredRegion, Refusal>,
     n: usize,
-) -> Mark
+) -> Result<Option<CapStone>, Refusal>
     requires { Markable pic.old width height (length stack.old) y cut (regions.meaning ring) (regions.meaning stone) }
     ensures { Marked pic.old width height y cut (regions.meaning ring) (regions.meaning stone) n (meaning result) pic.new }
 {
     if !is_capstone(pic, width, height, cut, y, ring, stone) {
-        return Mark::Dropped;
+        return Ok(None);
     }
     create_capstone(pic, width, height, stack, cut.right, y, n)
 }
@@ -61,40 +60,20 @@ fn with_stone(marks: Marks, stone: CapStone) -> Marks
         stones: stones,
         n: n + 1,
         table: table,
-        verdict: Verdict::Sound,
+        verdict: Ok(()),
     }
 }
 
-// An array of blank stones.
-fn blanks() -> [CapStone; 64]
-    ensures { result ≡ replicate 64 no_stone }
-{
-    [blank(); 64]
-}
-
-// No marks, but a refusal.
-pub fn refused(why: Refusal, table: Table) -> Marks
-    ensures { (outcome result ≡ refused_by why) × Laid result × (result.table ≡ table) }
+// No marks: none yet, or why there are none.
+pub fn none(verdict: Result<(), Refusal>, table: Table) -> Marks
+    ensures { (outcome result ≡ told verdict []) × Laid result × (result.table ≡ table) }
 {
     let stones = blanks();
     Marks {
         stones: stones,
         n: 0,
         table: table,
-        verdict: Verdict::Refused(why),
-    }
-}
-
-// No marks yet.
-fn no_marks(table: Table) -> Marks
-    ensures { (outcome result ≡ found []) × Laid result × (result.table ≡ table) }
-{
-    let stones = blanks();
-    Marks {
-        stones: stones,
-        n: 0,
-        table: table,
-        verdict: Verdict::Sound,
+        verdict: verdict,
     }
 }
 
@@ -110,13 +89,10 @@ pub fn capstones_from_image(
     requires { InWork pic.old width height (length stack.old) table }
     ensures { Searches width height (all_cuts pic.old width height) pic.old table [] (outcome result) pic.new result.table × Laid result }
 {
-    let mut marks = no_marks(table);
+    let mut marks = none(Ok(()), table);
     let mut y = 0;
     let mut scan = LineScanner::new();
-    loop {
-        let Cutting::At(line, at, next) = next_cut(pic, width, height, y, scan) else {
-            return marks;
-        };
+    while let Some((line, at, next)) = next_cut(pic, width, height, y, scan) {
         let ring = get_region(pic, width, height, stack, marks.table, at.right, line);
         let among = ring.table;
         let stone = get_region(pic, width, height, stack, among, at.stone, line);
@@ -125,15 +101,16 @@ pub fn capstones_from_image(
         let inner = stone.found;
         marks.table = after;
         match mark_at(pic, width, height, stack, at, line, outer, inner, marks.n) {
-            Mark::Stone(found) => {
+            Ok(Some(found)) => {
                 marks = with_stone(marks, found);
             }
-            Mark::Dropped => {}
-            Mark::Refused(why) => {
-                return refused(why, after);
+            Ok(None) => {}
+            Err(why) => {
+                return none(Err(why), after);
             }
         }
         y = line;
         scan = next;
     }
+    marks
 }

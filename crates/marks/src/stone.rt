@@ -5,19 +5,11 @@ ghost use Rattle.refusals.specs.First.{first};
 ghost use Rattle.marks.specs.Stone.{meaning, stone, stone_tests, centred_stone, stone_of, Ringed, Rings, Creates};
 
 use capstones::CapStone;
-use corners::{AllCornerFinder, FirstCornerFinder, fill_all_corners, fill_first_corner, point_at};
-use geometry::{Perspective, Sight, Spot};
+use corners::{AllCornerFinder, FirstCornerFinder, fill_and_find, point_at};
+use geometry::{Perspective, Sight};
 use points::Point;
 use refusals::Refusal;
 use stated::is_near;
-
-// What a cut comes to: a mark's stone, nothing, or a refusal.
-#[derive(Clone, Copy)]
-pub enum Mark {
-    Stone(CapStone),
-    Dropped,
-    Refused(Refusal),
-}
 
 // The stone of these corners, centre and perspective, after n others: 12 where its centre lies too far out, 11 where there is no room for it.
 fn admitted(
@@ -28,37 +20,42 @@ fn admitted(
     center: Point,
     c: Perspective,
     n: usize,
-) -> Mark
+) -> Result<Option<CapStone>, Refusal>
     ensures { meaning result ≡ first (stone_tests center n) (found (stone p0 p1 p2 p3 center c ∷ [])) }
 {
     if !is_near(center) {
-        return Mark::Refused(Refusal::Far);
+        return Err(Refusal::Far);
     }
     if n >= 64 {
-        return Mark::Refused(Refusal::Stones);
+        return Err(Refusal::Stones);
     }
-    Mark::Stone(CapStone {
+    Ok(Some(CapStone {
         corner0: p0,
         corner1: p1,
         corner2: p2,
         corner3: p3,
         center: center,
         c: c,
-    })
+    }))
 }
 
 // The stone of these corners and their perspective: its centre is the middle of the seven by seven, 13 where that lies at no place.
-fn centred(p0: Point, p1: Point, p2: Point, p3: Point, c: Perspective, n: usize) -> Mark
+fn centred(
+    p0: Point,
+    p1: Point,
+    p2: Point,
+    p3: Point,
+    c: Perspective,
+    n: usize,
+) -> Result<Option<CapStone>, Refusal>
     ensures { meaning result ≡ centred_stone p0 p1 p2 p3 c n }
 {
-    match c.map(3.5, 3.5) {
-        Spot::Placed(center) => admitted(p0, p1, p2, p3, center, c, n),
-        Spot::Unplaced => Mark::Refused(Refusal::Unplaced),
-    }
+    let center = c.map(3.5, 3.5).ok_or(Refusal::Unplaced)?;
+    admitted(p0, p1, p2, p3, center, c, n)
 }
 
 // The stone of four corners: nothing where they are flat.
-fn stone_of(corners: AllCornerFinder, n: usize) -> Mark
+fn stone_of(corners: AllCornerFinder, n: usize) -> Result<Option<CapStone>, Refusal>
     ensures { meaning result ≡ stone_of corners n }
 {
     let ahead = corners.ahead;
@@ -71,7 +68,7 @@ fn stone_of(corners: AllCornerFinder, n: usize) -> Mark
     let p3 = left.place;
     match Perspective::create(p0, p1, p2, p3, 7.0, 7.0) {
         Sight::Made(c) => centred(p0, p1, p2, p3, c, n),
-        Sight::Flat => Mark::Dropped,
+        Sight::Flat => Ok(None),
     }
 }
 
@@ -89,11 +86,11 @@ fn ring_corners(
 {
     let start = point_at(x, y);
     let finder = FirstCornerFinder::new(start);
-    let first = fill_first_corner(pic, width, height, stack, x, y, 4, finder);
+    let first = fill_and_find(pic, width, height, stack, x, y, 4, finder);
     let best = first.best;
     let corner = best.place;
     let finders = AllCornerFinder::new(start, corner);
-    fill_all_corners(pic, width, height, stack, x, y, 2, finders)
+    fill_and_find(pic, width, height, stack, x, y, 2, finders)
 }
 
 // The stone of the ring at (x, y), after n others. The stone itself is not painted.
@@ -105,7 +102,7 @@ pub fn create_capstone(
     x: usize,
     y: usize,
     n: usize,
-) -> Mark
+) -> Result<Option<CapStone>, Refusal>
     requires { Ringed pic.old width height (length stack.old) x y }
     ensures { Creates pic.old width height x y n (meaning result) pic.new }
 {

@@ -5,6 +5,8 @@ use mathlib.Core.Path.{◌≡◌, refl, sym, ap, ◌∙◌}
 use mathlib.Core.Bool.{Bool, true, false, true≢false}
 use mathlib.Core.List.{List, [], ◌∷◌}
 use lib.ListN.{length, get_or, set}
+use Rattle.std.specs.List.{swap}
+use Rattle.std.proofs.lemmas.List.{get_or_default}
 use Rattle.match_capstones.specs.Order.{ranks_before, inserted, ranked}
 use Rattle.match_capstones.specs.declared.NeighborSet.{NeighborSet}
 use Rattle.match_capstones.proofs.Before.{once_before, before_through}
@@ -17,6 +19,11 @@ sooner a b = ranks_before a.score b.score
 -- the set at a place
 abbrev pub at : List NeighborSet → ℕ → NeighborSet
 at l i = get_or l i no_set
+
+-- the library's `swap` writes each at the place of the other
+pub swap_is : (l : List NeighborSet) (i j : ℕ) → i < length l → j < length l → swap l i j ≡ set (set l i (at l j)) j (at l i)
+swap_is [] i j a b = absurd (omega arith)
+swap_is (d ∷ l) i j a b = rw (get_or_default (d ∷ l) j d no_set b, get_or_default (d ∷ l) i d no_set a)
 
 passes : (s t : NeighborSet) (l : List NeighborSet) → sooner t s ≡ true → inserted s (t ∷ l) ≡ t ∷ inserted s l
 unfolding inserted

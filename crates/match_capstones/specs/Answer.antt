@@ -1,5 +1,6 @@
 -- What a ranking answers, in document 01's terms: the pairs in their order, or refusal 11 or 16. Assumes nothing.
-use Rattle.std.specs.Prelude.{ℕ, ◌-◌, ◌≡◌, List, [], ◌∷◌, ◌++◌, map, leb, ltb, length, take, replicate}
+use Rattle.std.specs.Prelude.{ℕ, ◌-◌, ◌≡◌, List, [], ◌∷◌, ◌++◌, map, leb, ltb, length, take, replicate, Result, Ok, Err}
+use Rattle.refusals.specs.declared.Refusal.{Refusal}
 use Rattle.refusals.specs.Limits.{most_stones}
 use Rattle.refusals.specs.Finding.{Finding, found, refused, refused_by}
 use Rattle.refusals.specs.First.{Test, ◌when◌, first}
@@ -11,17 +12,15 @@ use Rattle.match_capstones.specs.Order.{ranked}
 use Rattle.match_capstones.specs.declared.NeighborSet.{NeighborSet}
 use Rattle.match_capstones.specs.declared.Pair.{Pair}
 use Rattle.match_capstones.specs.declared.Ranked.{Ranked}
-use Rattle.match_capstones.specs.declared.Ranking.{Ranking}
-use Rattle.match_capstones.specs.declared.Ranking.TheVariants.{Pairs, Refused}
 
 -- no stone has more pairs: of 63 others at most 31 and 32 make the two lists
 abbrev pub most_pairs : ℕ
 most_pairs = 992
 
 -- how many pairs there are, or a refusal by its number
-abbrev pub meaning : Ranking → Finding ℕ
-meaning (Pairs count) = found count
-meaning (Refused why) = refused_by why
+abbrev pub meaning : Result ℕ Refusal → Finding ℕ
+meaning (Ok count) = found count
+meaning (Err why) = refused_by why
 
 -- a set without its score
 abbrev pub pair_of : NeighborSet → Pair

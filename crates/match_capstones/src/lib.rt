@@ -3,7 +3,6 @@
 
 use refusals::Refusal;
 
-mod float;
 mod lists;
 mod rank;
 mod sets;
@@ -54,16 +53,9 @@ pub struct Pair {
     pub v: usize,
 }
 
-// What a ranking answers: how many pairs there are, or why it refuses.
-#[derive(Clone, Copy)]
-pub enum Ranking {
-    Pairs(usize),
-    Refused(Refusal),
-}
-
 // The answer, and the pairs, the likeliest first. Past their count, and wherever there is a refusal, each pair is blank.
 #[derive(Clone, Copy)]
 pub struct Ranked {
     pub pairs: [Pair; 992],
-    pub answer: Ranking,
+    pub answer: Result<usize, Refusal>,
 }

@@ -3,7 +3,6 @@ ghost use Rattle.std.specs.Prelude.{◌<◌, ◌≤◌, ◌≡◌, take};
 ghost use Rattle.match_capstones.specs.Neighbors.{offset, in_line, others_of, hlist, vlist};
 ghost use Rattle.match_capstones.specs.Arrays.{Holds};
 
-use crate::float::abs;
 use crate::{Neighbor, NeighborLists, Neighbors};
 use capstones::CapStone;
 use geometry::{GridPoint, Perspective};
@@ -14,8 +13,8 @@ fn offset_of(c: Perspective, q: Point) -> GridPoint
     ensures { result ≡ offset c q }
 {
     let at = c.unmap(q);
-    let u = abs(at.u - 3.5);
-    let v = abs(at.v - 3.5);
+    let u = (at.u - 3.5).abs();
+    let v = (at.v - 3.5).abs();
     GridPoint { u: u, v: v }
 }
 

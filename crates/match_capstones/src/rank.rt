@@ -6,7 +6,7 @@ ghost use Rattle.match_capstones.specs.Answer.{pair_of, no_pair, ranking, Tells}
 use crate::lists::find_possible_neighbors;
 use crate::sets::possible_sets;
 use crate::sort::sorted;
-use crate::{NeighborSets, Pair, Ranked, Ranking};
+use crate::{NeighborSets, Pair, Ranked};
 use capstones::CapStone;
 use refusals::Refusal;
 
@@ -30,7 +30,7 @@ fn refused(why: Refusal) -> Ranked
 {
     Ranked {
         pairs: [Pair { h: 0, v: 0 }; 992],
-        answer: Ranking::Refused(why),
+        answer: Err(why),
     }
 }
 
@@ -50,6 +50,6 @@ pub fn find_and_rank_possible_neighbors(stones: [CapStone; 64], n: usize, idx: u
     let pairs = pairs_of(sets);
     Ranked {
         pairs,
-        answer: Ranking::Pairs(count),
+        answer: Ok(count),
     }
 }

@@ -3,7 +3,6 @@ ghost use Rattle.std.specs.Prelude.{◌+◌, ◌≤◌, ◌≡◌, length, take}
 ghost use Rattle.match_capstones.specs.Arrays.{Holds};
 ghost use Rattle.match_capstones.specs.Scores.{score_of, viable, made};
 
-use crate::float::{abs, is_nan};
 use crate::{NeighborSet, NeighborSets, Neighbors};
 
 // How unlike two distances are.
@@ -11,9 +10,9 @@ fn score_of(h: f64, v: f64) -> f64
     ensures { result ≡ score_of h v }
 {
     if h < v {
-        abs(1.0 - h / v)
+        (1.0 - h / v).abs()
     } else {
-        abs(1.0 - v / h)
+        (1.0 - v / h).abs()
     }
 }
 
@@ -21,10 +20,7 @@ fn score_of(h: f64, v: f64) -> f64
 fn is_viable(score: f64) -> bool
     ensures { result ≡ viable score }
 {
-    if score < 0.25 {
-        return true;
-    }
-    is_nan(score)
+    score < 0.25 || score.is_nan()
 }
 
 // All sets that two lists make: each neighbour of the first with each of the second.
@@ -38,27 +34,19 @@ pub fn possible_sets(hns: Neighbors, vns: Neighbors) -> NeighborSets
         v: 0,
     }; 992];
     let mut n = 0;
-    let mut i = 0;
-    let mut j = 0;
-    while i < hns.n {
-        if j == vns.n {
-            i += 1;
-            j = 0;
-            continue;
+    for hn in &hns.all[..hns.n] {
+        for vn in &vns.all[..vns.n] {
+            let score = score_of(hn.distance, vn.distance);
+            if !is_viable(score) {
+                continue;
+            }
+            all[n] = NeighborSet {
+                score,
+                h: hn.index,
+                v: vn.index,
+            };
+            n += 1;
         }
-        let hn = hns.all[i];
-        let vn = vns.all[j];
-        j += 1;
-        let score = score_of(hn.distance, vn.distance);
-        if !is_viable(score) {
-            continue;
-        }
-        all[n] = NeighborSet {
-            score,
-            h: hn.index,
-            v: vn.index,
-        };
-        n += 1;
     }
     NeighborSets { all, n }
 }

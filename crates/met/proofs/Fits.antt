@@ -1,4 +1,5 @@
 -- What a fit meets: 10, and 12 to 15. Assumes nothing.
+use Rattle.std.specs.Prelude.{Ok, Err}
 use Prim.Native.Nat.{ℕ}
 use native.Mathlib.Omega.{arith}
 use mathlib.Core.Path.{◌≡◌, sym, subst}
@@ -33,21 +34,21 @@ pub met_same : {A B : Type 0} {f : Finding A} {g : Finding B} {n : ℕ} → f �
 met_same {n = n} e d m = let r : OnTheWay n = subst Met e m in met_is d r
 
 -- ---- a visit is refused by 10 alone
-not_looked : (estimate : ℕ) (a : Answer) (why : Refusal) → visit.Refused why ≡ visit_of estimate a → ⊥
+not_looked : (estimate : ℕ) (a : Answer) (why : Refusal) → Err why ≡ visit_of estimate a → ⊥
 unfolding visit_of
 not_looked estimate (claimed colour) why e = let z : ◌≡◌ {A = ℕ} 0 1 = cc in omega arith
 not_looked estimate (unclaimed r) why e = go (size_like estimate r.entry.px) e
   where
-    go : (t : Bool) → visit.Refused why ≡ cond t visit.Here visit.Moves → ⊥
+    go : (t : Bool) → Err why ≡ cond t (Ok visit.Here) (Ok visit.Moves) → ⊥
     go true d = let z : ◌≡◌ {A = ℕ} 0 1 = cc in omega arith
     go false d = let z : ◌≡◌ {A = ℕ} 0 1 = cc in omega arith
 
-pixel_met : {p : List ℕ} {w h : ℕ} {T : Table} {estimate x y : ℕ} {q : List ℕ} {U : Table} (why : Refusal) → VisitsPixel p w h T estimate x y (visit.Refused why) q U → OnTheWay (number_of why)
+pixel_met : {p : List ℕ} {w h : ℕ} {T : Table} {estimate x y : ℕ} {q : List ℕ} {U : Table} (why : Refusal) → VisitsPixel p w h T estimate x y (Err why) q U → OnTheWay (number_of why)
 pixel_met why (white o e a b) = let z : ◌≡◌ {A = ℕ} 0 1 = cc in absurd (omega arith)
 pixel_met why (not_listed o l e a b) = let one : refusal.Number ≡ why = cc in subst (λ (r : Refusal). OnTheWay (number_of r)) one (omega arith, omega arith)
 pixel_met {estimate = estimate} why (looked o l a k e) = absurd (not_looked estimate a why e)
 
-visit_met : {p : List ℕ} {w h : ℕ} {T : Table} {estimate : ℕ} {at : Point} {q : List ℕ} {U : Table} (why : Refusal) → Visits p w h T estimate at (visit.Refused why) q U → OnTheWay (number_of why)
+visit_met : {p : List ℕ} {w h : ℕ} {T : Table} {estimate : ℕ} {at : Point} {q : List ℕ} {U : Table} (why : Refusal) → Visits p w h T estimate at (Err why) q U → OnTheWay (number_of why)
 visit_met why (beside o e a b) = let z : ◌≡◌ {A = ℕ} 0 1 = cc in absurd (omega arith)
 visit_met why (at_pixel x y o X) = pixel_met why X
 

@@ -1,4 +1,6 @@
 -- What points, outlines and estimates meet: 12 to 15. Assumes nothing.
+use Rattle.std.specs.Prelude.{Option, Some, None}
+use lib.IntN.{ℤ}
 use Prim.Native.Nat.{ℕ}
 use native.Mathlib.Omega.{arith}
 use mathlib.Core.Bool.{Bool, true, false, not, cond, ◌&&◌}
@@ -10,16 +12,12 @@ use Rattle.refusals.specs.Finding.{Finding, found, refused, refused_by}
 use Rattle.refusals.specs.declared.Refusal.TheVariants as refusal
 use Rattle.points.specs.declared.Point.{Point}
 use Rattle.rounding.specs.Nearest.{nearest_of}
-use Rattle.rounding.specs.declared.Whole.{Whole}
-use Rattle.rounding.specs.declared.Whole.TheVariants.{At, Off}
 use Rattle.geometry.specs.Map.{placed, map_x, map_y, mapped}
 use Rattle.geometry.specs.declared.Perspective.{Perspective}
 use Rattle.geometry.specs.declared.Sight.{Sight}
 use Rattle.geometry.specs.declared.Sight.TheVariants.{Made, Flat}
 use Rattle.stated.specs.Stated.{near, judged, stated, stated_at}
 use Rattle.lines.specs.Meet.{meet_of}
-use Rattle.lines.specs.declared.Meet.{Meet}
-use Rattle.lines.specs.declared.Meet.TheVariants as meet
 use Rattle.capstones.specs.declared.CapStone.{CapStone}
 use Rattle.groups.specs.Orient.{oriented}
 use Rattle.groups.specs.Side.{side_of}
@@ -37,10 +35,10 @@ pub mapped_met : (c : Perspective) (u v : Float) → Met (mapped c u v)
 unfolding mapped placed
 mapped_met c u v = go (nearest_of (map_x c u v)) (nearest_of (map_y c u v))
   where
-    go : (a b : Whole) → Met (placed a b)
-    go (At a) (At b) = tt
-    go (At a) Off = (omega arith, omega arith)
-    go Off b = (omega arith, omega arith)
+    go : (a b : Option ℤ) → Met (placed a b)
+    go (Some a) (Some b) = tt
+    go (Some a) None = (omega arith, omega arith)
+    go None b = (omega arith, omega arith)
 
 -- 12, or what is found
 far_met : {A : Type 0} (t : Bool) (a : A) → Met (cond t (refused_by refusal.Far) (found a))
@@ -109,9 +107,9 @@ module _ (pic : List ℕ) (width height : ℕ) where
       corner size (found p) m = tt
       corner size (refused n) m = m
 
-      cross : (size : ℕ) (m : Meet) → Met (met_outline g hd size m)
-      cross size (meet.At p) = corner size (judged p) (judged_met p)
-      cross size meet.Nowhere = tt
+      cross : (size : ℕ) (m : Option Point) → Met (met_outline g hd size m)
+      cross size (Some p) = corner size (judged p) (judged_met p)
+      cross size None = tt
 
       go : (f : Finding ℕ) → Met f → Met (measured_outline g hd f)
       go (found size) m = cross size (meet_of g.first.corner0 g.first.corner1 g.third.corner0 g.third.corner3)

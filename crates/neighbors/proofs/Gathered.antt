@@ -1,22 +1,22 @@
--- The first stones of a list, put into an array one by one: a ranking does not see the difference. Assumes nothing.
+-- The first stones of a list, copied over the front of an array: a ranking does not see the difference. Assumes nothing.
 use mathlib.Core.Path.{◌≡◌}
-use Prim.Native.Nat.{ℕ, ◌+◌, ◌<◌, ◌≤◌}
+use Prim.Native.Nat.{ℕ, ◌<◌, ◌≤◌}
 use native.Mathlib.Decide.{dec_le}
 use native.Mathlib.Omega.{arith}
-use native.Mathlib.Numerals.{add-one}
 use mathlib.Core.Logic.{by_cases}
-use mathlib.Core.List.{List}
-use lib.ListN.{length, get_or, set, take}
-use lib.Seq.{take-suc, take-suc-set}
+use mathlib.Core.List.{List, ◌++◌}
+use lib.ListN.{length, take, drop}
+use lib.Seq.{length-take-le}
+use Rattle.std.proofs.lemmas.List.{take_at}
 use borrow.Author.Tests.{lt-ltb, le-ltb}
 use Rattle.refusals.specs.Limits.{most_stones}
 use Rattle.capstones.specs.declared.CapStone.{CapStone}
 use Rattle.match_capstones.specs.Answer.{ranking}
 use Rattle.neighbors.specs.Most.{fewer}
 
--- one stone more
-pub gather_next : (a l : List CapStone) (i : ℕ) (d : CapStone) → i < length a → i < length l → take i a ≡ take i l → take (i + 1) (set a i (get_or l i d)) ≡ take (i + 1) l
-gather_next a l i d room h same = rw (add-one, take-suc-set a i (get_or l i d) room, take-suc l i d h, same)
+-- s is the first k of l, and stands in front of what is left of a
+pub gathered : (l a s : List CapStone) (k n : ℕ) → s ≡ take k l → k ≡ n → n ≤ length l → take n (s ++ drop k a) ≡ take n l
+gathered l a s k n e same h = rw (e, same) (take_at (take n l) (drop n a) n (omega (arith, length-take-le n l h)))
 
 pub fewer_all : (n : ℕ) → n ≤ most_stones → fewer n ≡ n
 unfolding fewer

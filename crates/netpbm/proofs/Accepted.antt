@@ -8,40 +8,40 @@ use lib.Dec.{leb, eqb}
 use lib.ListN.{length}
 use borrow.Author.Tests.{leb-true, eqb-true}
 use Rattle.netpbm.specs.Form.{most_pixels, space, digit, bit, all, said_after, Gap, Numeral, white_or_bit, pixels_in, BeginsWhite, Picture, Form}
-use Rattle.netpbm.specs.Machine.{none, takes, longer, in_width, in_height, sized, takes_pixel, in_pixels, stepped, kept, Reading, reading, fed, ended_at, ended_in}
+use Rattle.netpbm.specs.Machine.{none, takes, longer, in_width, in_height, sized, takes_pixel, in_pixels, stepped, kept, Reading, reading, fed, bitmap, ended_at, ended_in}
 use Rattle.netpbm.specs.declared.Number.{Number}
 use Rattle.netpbm.specs.declared.Body.{Body}
-use Rattle.netpbm.specs.declared.Input.{Input}
-use Rattle.netpbm.specs.declared.Input.TheVariants.{Bitmap, Refused}
+use Rattle.netpbm.specs.declared.Sides.{Sides}
+use Rattle.std.proofs.Common.{Option, Some, None}
 use Rattle.netpbm.specs.declared.Reader.{Reader}
 use Rattle.netpbm.specs.declared.Reader.TheVariants.{Nothing, Letter, Magic, BeforeWidth, Width, BeforeHeight, Height, Pixels, Broken}
 use Rattle.netpbm.proofs.Numbers.{takes_told, takes_pixel_told}
 use Rattle.netpbm.proofs.Whole.{bit_not_white, end_in_height}
 
 -- what the reader answers to a file that goes on from a reading by these bytes
-abbrev answer : Reading → List ℕ → Input
+abbrev answer : Reading → List ℕ → Option Sides
 answer s rest = ended_in (stepped (fed s rest).reader 32)
 
 -- a bitmap's sides, and a refusal is none
-abbrev Sides : Input → ℕ → ℕ → Type 0
-Sides (Bitmap v g) w h = (v ≡ w) × (g ≡ h)
-Sides Refused w h = ⊥
+abbrev SidesAre : Option Sides → ℕ → ℕ → Type 0
+SidesAre (Some s) w h = (s.width ≡ w) × (s.height ≡ h)
+SidesAre None w h = ⊥
 
-sides : (a : Input) (w h : ℕ) → a ≡ Bitmap w h → Sides a w h
-sides a w h e = subst (λ (i : Input). Sides i w h) (sym e) (refl, refl)
+sides : (a : Option Sides) (w h : ℕ) → a ≡ bitmap w h → SidesAre a w h
+sides a w h e = subst (λ (i : Option Sides). SidesAre i w h) (sym e) (refl, refl)
 
 mul_same : {a b c d : ℕ} → a ≡ c → b ≡ d → a * b ≡ c * d
 mul_same {a} {b} {c} {d} e f = ap (λ (n : ℕ). n * b) e ∙ ap (λ (n : ℕ). c * n) f
 
 -- no way leads out of a broken form
-broken : (p rest : List ℕ) (w h : ℕ) → answer (reading Broken p) rest ≡ Bitmap w h → ⊥
+broken : (p rest : List ℕ) (w h : ℕ) → answer (reading Broken p) rest ≡ bitmap w h → ⊥
 unfolding fed stepped kept ended_in
-broken p [] w h e = sides Refused w h e
+broken p [] w h e = sides None w h e
 broken p (b ∷ rest) w h e = broken p rest w h e
 
 -- by a test of the next byte
-by_test : {A : Type 0} (t : Bool) (x y : Reader) (p rest : List ℕ) (w h : ℕ) → answer (reading (cond t x y) p) rest ≡ Bitmap w h
-    → (t ≡ true → answer (reading x p) rest ≡ Bitmap w h → A) → (t ≡ false → answer (reading y p) rest ≡ Bitmap w h → A) → A
+by_test : {A : Type 0} (t : Bool) (x y : Reader) (p rest : List ℕ) (w h : ℕ) → answer (reading (cond t x y) p) rest ≡ bitmap w h
+    → (t ≡ true → answer (reading x p) rest ≡ bitmap w h → A) → (t ≡ false → answer (reading y p) rest ≡ bitmap w h → A) → A
 by_test true x y p rest w h e on off = on refl e
 by_test false x y p rest w h e on off = off refl e
 
@@ -70,15 +70,15 @@ module _ (w h : ℕ) where
         exact = rw (bit_not_white b e) (omega (arith, R.exact));
       }
 
-  ended : (v g c : ℕ) → ended_at (record { width = v; height = g; count = c }) ≡ Bitmap w h → (v ≡ w) × (g ≡ h) × (c ≡ v * g)
+  ended : (v g c : ℕ) → ended_at (record { width = v; height = g; count = c }) ≡ bitmap w h → (v ≡ w) × (g ≡ h) × (c ≡ v * g)
   unfolding ended_at
   ended v g c e = go (eqb c (v * g)) refl e
     where
-      go : (t : Bool) → eqb c (v * g) ≡ t → cond t (Bitmap v g) Refused ≡ Bitmap w h → (v ≡ w) × (g ≡ h) × (c ≡ v * g)
-      go true is e = let s = sides (Bitmap v g) w h e in (s.0, s.1, eqb-true c (v * g) is)
-      go false is e = absurd (sides Refused w h e)
+      go : (t : Bool) → eqb c (v * g) ≡ t → cond t (bitmap v g) None ≡ bitmap w h → (v ≡ w) × (g ≡ h) × (c ≡ v * g)
+      go true is e = let s = sides (bitmap v g) w h e in (s.0, s.1, eqb-true c (v * g) is)
+      go false is e = absurd (sides None w h e)
 
-  from_pixels : (v g c : ℕ) (p s : List ℕ) → answer (reading (at v g c) p) s ≡ Bitmap w h → Rest v g c s
+  from_pixels : (v g c : ℕ) (p s : List ℕ) → answer (reading (at v g c) p) s ≡ bitmap w h → Rest v g c s
   unfolding fed stepped kept in_pixels ended_in all pixels_in space
   from_pixels v g c p [] e = let s = ended v g c e in record { width = s.0; height = s.1; plain = refl; exact = omega (arith, s.2, mul_same s.0 s.1) }
   from_pixels v g c p (b ∷ s) e =
@@ -99,18 +99,18 @@ module _ (w h : ℕ) where
     pub plain : all white_or_bit body ≡ true
     pub exact : length (pixels_in body) ≡ w * h
 
-  from_sized_empty : (v g : ℕ) → ended_in (sized v g) ≡ Bitmap w h → Ends v g []
+  from_sized_empty : (v g : ℕ) → ended_in (sized v g) ≡ bitmap w h → Ends v g []
   unfolding sized ended_in all pixels_in
   from_sized_empty v g e = go (leb (v * g) most_pixels) refl e
     where
-      go : (t : Bool) → leb (v * g) most_pixels ≡ t → ended_in (cond t (at v g 0) Broken) ≡ Bitmap w h → Ends v g []
+      go : (t : Bool) → leb (v * g) most_pixels ≡ t → ended_in (cond t (at v g 0) Broken) ≡ bitmap w h → Ends v g []
       go true is e =
           let s = ended v g 0 e in
           let product : v * g ≡ w * h = mul_same s.0 s.1 in
           record { width = s.0; height = s.1; few = omega (arith, leb-true (v * g) most_pixels is, product); parted = λ some. omega (arith, s.2, product, some); plain = refl; exact = omega (arith, s.2, product) }
-      go false is e = absurd (sides Refused w h e)
+      go false is e = absurd (sides None w h e)
 
-  from_sized : (v g b : ℕ) (p s : List ℕ) → space b ≡ true → answer (reading (sized v g) p) s ≡ Bitmap w h → Ends v g (b ∷ s)
+  from_sized : (v g b : ℕ) (p s : List ℕ) → space b ≡ true → answer (reading (sized v g) p) s ≡ bitmap w h → Ends v g (b ∷ s)
   unfolding sized all pixels_in
   from_sized v g b p s white e =
       by_test (leb (v * g) most_pixels) (at v g 0) Broken p s w h e
@@ -135,7 +135,7 @@ module _ (w h : ℕ) where
     pub fits : n.digits + length word ≤ 5
     pub ends : Ends v (said_after n.value word) body
 
-  from_height : (v : ℕ) (n : Number) (p rest : List ℕ) → n.digits ≤ 5 → answer (reading (Height v n) p) rest ≡ Bitmap w h → InHeight v n rest
+  from_height : (v : ℕ) (n : Number) (p rest : List ℕ) → n.digits ≤ 5 → answer (reading (Height v n) p) rest ≡ bitmap w h → InHeight v n rest
   unfolding fed stepped kept in_height all said_after
   from_height v n p [] few e =
       record { word = []; body = []; whole = refl; digits = refl; fits = omega arith; ends = from_sized_empty v n.value (ap ended_in (sym (end_in_height v n)) ∙ e) }
@@ -160,9 +160,9 @@ module _ (w h : ℕ) where
     pub numeral : Numeral word (said_after 0 word)
     pub ends : Ends v (said_after 0 word) body
 
-  from_before_height : (v : ℕ) (p rest : List ℕ) → answer (reading (BeforeHeight v) p) rest ≡ Bitmap w h → BeforeTheHeight v rest
+  from_before_height : (v : ℕ) (p rest : List ℕ) → answer (reading (BeforeHeight v) p) rest ≡ bitmap w h → BeforeTheHeight v rest
   unfolding fed stepped kept in_height all said_after ended_in space
-  from_before_height v p [] e = absurd (sides Refused w h e)
+  from_before_height v p [] e = absurd (sides None w h e)
   from_before_height v p (b ∷ rest) e =
       by_test (space b) (BeforeHeight v) (in_height v none b) p rest w h e
       (λ is f.
@@ -197,9 +197,9 @@ module _ (w h : ℕ) where
     pub numeral : Numeral second (said_after 0 second)
     pub ends : Ends (said_after n.value first) (said_after 0 second) body
 
-  from_width : (n : Number) (p rest : List ℕ) → n.digits ≤ 5 → answer (reading (Width n) p) rest ≡ Bitmap w h → InWidth n rest
+  from_width : (n : Number) (p rest : List ℕ) → n.digits ≤ 5 → answer (reading (Width n) p) rest ≡ bitmap w h → InWidth n rest
   unfolding fed stepped kept in_width all said_after ended_in space
-  from_width n p [] few e = absurd (sides Refused w h e)
+  from_width n p [] few e = absurd (sides None w h e)
   from_width n p (b ∷ rest) few e =
       by_test (space b) (BeforeHeight n.value) (in_width n b) p rest w h e
       (λ is f.
@@ -249,9 +249,9 @@ module _ (w h : ℕ) where
     pub says_height : Numeral second (said_after 0 second)
     pub ends : Ends (said_after 0 first) (said_after 0 second) body
 
-  from_before_width : (p rest : List ℕ) → answer (reading BeforeWidth p) rest ≡ Bitmap w h → Header rest
+  from_before_width : (p rest : List ℕ) → answer (reading BeforeWidth p) rest ≡ bitmap w h → Header rest
   unfolding fed stepped kept in_width all said_after ended_in space
-  from_before_width p [] e = absurd (sides Refused w h e)
+  from_before_width p [] e = absurd (sides None w h e)
   from_before_width p (b ∷ rest) e =
       by_test (space b) BeforeWidth (in_width none b) p rest w h e
       (λ is f.
@@ -316,20 +316,20 @@ module _ (w h : ℕ) where
     pub picture : Picture
     pub form : Form file picture
 
-  from_magic : (p rest : List ℕ) → answer (reading Magic p) rest ≡ Bitmap w h → Formed (80 ∷ 49 ∷ rest)
+  from_magic : (p rest : List ℕ) → answer (reading Magic p) rest ≡ bitmap w h → Formed (80 ∷ 49 ∷ rest)
   unfolding fed stepped kept ended_in space
-  from_magic p [] e = absurd (sides Refused w h e)
+  from_magic p [] e = absurd (sides None w h e)
   from_magic p (b ∷ rest) e =
       by_test (space b) BeforeWidth Broken p rest w h e (λ is f. record { picture = _; form = formed b rest is (from_before_width p rest f) }) (λ is f. absurd (broken p rest w h f))
 
-  from_letter : (p rest : List ℕ) → answer (reading Letter p) rest ≡ Bitmap w h → Formed (80 ∷ rest)
+  from_letter : (p rest : List ℕ) → answer (reading Letter p) rest ≡ bitmap w h → Formed (80 ∷ rest)
   unfolding fed stepped kept ended_in space
-  from_letter p [] e = absurd (sides Refused w h e)
+  from_letter p [] e = absurd (sides None w h e)
   from_letter p (b ∷ rest) e =
       by_test (eqb b 49) Magic Broken p rest w h e (λ is f. subst (λ (c : ℕ). Formed (80 ∷ c ∷ rest)) (sym (eqb-true b 49 is)) (from_magic p rest f)) (λ is f. absurd (broken p rest w h f))
 
-  pub accepted : (p file : List ℕ) → answer (reading Nothing p) file ≡ Bitmap w h → Formed file
+  pub accepted : (p file : List ℕ) → answer (reading Nothing p) file ≡ bitmap w h → Formed file
   unfolding fed stepped kept ended_in space
-  accepted p [] e = absurd (sides Refused w h e)
+  accepted p [] e = absurd (sides None w h e)
   accepted p (b ∷ rest) e =
       by_test (eqb b 80) Letter Broken p rest w h e (λ is f. subst (λ (c : ℕ). Formed (c ∷ rest)) (sym (eqb-true b 80 is)) (from_letter p rest f)) (λ is f. absurd (broken p rest w h f))

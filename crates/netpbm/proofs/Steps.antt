@@ -11,7 +11,7 @@ use Rattle.netpbm.specs.Form.{most_pixels, space}
 use Rattle.netpbm.specs.Machine.{none, takes, in_width, in_height, sized, takes_pixel, in_pixels, stepped, kept_in, kept, Reading, next, fed, ended_in, Below, Within, Bounded}
 use Rattle.netpbm.specs.declared.Number.{Number}
 use Rattle.netpbm.specs.declared.Body.{Body}
-use Rattle.netpbm.specs.declared.Input.TheVariants.{Refused}
+use Rattle.std.proofs.Common.{None}
 use Rattle.netpbm.specs.declared.Reader.{Reader}
 use Rattle.netpbm.specs.declared.Reader.TheVariants.{Nothing, Letter, Magic, BeforeWidth, Width, BeforeHeight, Height, Pixels, Broken}
 use Rattle.netpbm.proofs.Numbers.{none_below, longer_below, below_most, takes_pixel_told}
@@ -86,7 +86,7 @@ other_keeps (Height w n) b pixels o = refl
 other_keeps (Pixels p) b pixels o = absurd (o p refl)
 other_keeps Broken b pixels o = refl
 
-pub other_ends : (r : Reader) → Other r → ended_in r ≡ Refused
+pub other_ends : (r : Reader) → Other r → ended_in r ≡ None
 unfolding ended_in
 other_ends Nothing o = refl
 other_ends Letter o = refl

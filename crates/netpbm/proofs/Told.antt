@@ -9,15 +9,15 @@ use Rattle.netpbm.specs.Form.{most_pixels, Picture, Form}
 use Rattle.netpbm.specs.Machine.{stepped, Reading, reading, fed, ended_at, ended_in}
 use Rattle.netpbm.specs.Reads.{Reads}
 use Rattle.netpbm.specs.Told.{meaning, Told, of_form, of_none}
-use Rattle.netpbm.specs.declared.Input.{Input}
-use Rattle.netpbm.specs.declared.Input.TheVariants.{Bitmap, Refused}
+use Rattle.netpbm.specs.declared.Sides.{Sides}
+use Rattle.std.proofs.Common.{Option, Some, None}
 use Rattle.netpbm.specs.declared.Reader.{Reader}
 use Rattle.netpbm.specs.declared.Reader.TheVariants.{Nothing}
 use Rattle.netpbm.proofs.Whole.{Read, form_read}
 use Rattle.netpbm.proofs.Accepted.{accepted}
 
 -- what a reading answers once its file has ended
-abbrev ending : Reading → Input
+abbrev ending : Reading → Option Sides
 ending s = ended_in (stepped s.reader 32)
 
 read_ends : (s : Reading) (p : Picture) → Read s p → meaning s.pixels (ending s) ≡ found p
@@ -43,23 +43,23 @@ module _ (file lent : List ℕ) (room : length lent ≡ most_pixels) where
   form_ends : (p : Picture) → Form file p → meaning end.pixels (ending end) ≡ found p
   form_ends p F = read_ends end p (form_read file lent p room F)
 
-  by_answer : (a : Input) → ending end ≡ a → Told file (meaning end.pixels a)
-  by_answer (Bitmap w h) e =
-      let F = accepted w h lent file e in
-      let m : meaning end.pixels (Bitmap w h) ≡ found F.picture = rw e at (form_ends F.picture F.form) in
+  by_answer : (a : Option Sides) → ending end ≡ a → Told file (meaning end.pixels a)
+  by_answer (Some s) e =
+      let F = accepted s.width s.height lent file e in
+      let m : meaning end.pixels (Some s) ≡ found F.picture = rw e at (form_ends F.picture F.form) in
       subst (Told file) (sym m) (of_form F.picture F.form)
-  by_answer Refused e =
-      of_none (λ p F. let m : meaning end.pixels Refused ≡ found p = rw e at (form_ends p F) in subst IsFound (sym m) tt)
+  by_answer None e =
+      of_none (λ p F. let m : meaning end.pixels None ≡ found p = rw e at (form_ends p F) in subst IsFound (sym m) tt)
 
 -- a file that the reader refuses is not of the form
-pub refused_none : (file : List ℕ) → ending (fed (reading Nothing (replicate most_pixels 0)) file) ≡ Refused → (p : Picture) → Form file p → ⊥
+pub refused_none : (file : List ℕ) → ending (fed (reading Nothing (replicate most_pixels 0)) file) ≡ None → (p : Picture) → Form file p → ⊥
 refused_none file e p F =
     let lent : List ℕ = replicate most_pixels 0 in
-    let m : meaning (fed (reading Nothing lent) file).pixels Refused ≡ found p = rw e at (form_ends file lent (length-replicate {A = ℕ} most_pixels 0) p F) in
+    let m : meaning (fed (reading Nothing lent) file).pixels None ≡ found p = rw e at (form_ends file lent (length-replicate {A = ℕ} most_pixels 0) p F) in
     subst IsFound (sym m) tt
 
 -- what a reading answers at its end is told of the file read
-pub told : (file pixels : List ℕ) (reader : Reader) (a : Input) → ended_in (stepped reader 32) ≡ a → Reads file pixels reader → Told file (meaning pixels a)
+pub told : (file pixels : List ℕ) (reader : Reader) (a : Option Sides) → ended_in (stepped reader 32) ≡ a → Reads file pixels reader → Told file (meaning pixels a)
 told file pixels reader a e R =
     subst (λ (s : Reading). ending s ≡ a → Told file (meaning s.pixels a)) (sym R.comes) (by_answer file R.lent R.room a) e
 

@@ -1,10 +1,9 @@
 -- The reader as a machine that goes from state to state by bytes. `Reads` ties it to the form. Definitions alone.
-use Rattle.std.specs.Prelude.{ℕ, zero, suc, ◌+◌, ◌-◌, ◌*◌, ◌≤◌, ◌<◌, Bool, cond, ◌&&◌, List, [], ◌∷◌, eqb, leb, ltb, set}
+use Rattle.std.specs.Prelude.{ℕ, zero, suc, ◌+◌, ◌-◌, ◌*◌, ◌≤◌, ◌<◌, Bool, cond, ◌&&◌, List, [], ◌∷◌, eqb, leb, ltb, set, Option, Some, None}
 use Rattle.netpbm.specs.Form.{most_pixels, space, digit, bit}
 use Rattle.netpbm.specs.declared.Number.{Number}
 use Rattle.netpbm.specs.declared.Body.{Body}
-use Rattle.netpbm.specs.declared.Input.{Input}
-use Rattle.netpbm.specs.declared.Input.TheVariants.{Bitmap, Refused}
+use Rattle.netpbm.specs.declared.Sides.{Sides}
 use Rattle.netpbm.specs.declared.Reader.{Reader}
 use Rattle.netpbm.specs.declared.Reader.TheVariants.{Nothing, Letter, Magic, BeforeWidth, Width, BeforeHeight, Height, Pixels, Broken}
 
@@ -86,21 +85,25 @@ unfoldable pub fed : Reading → List ℕ → Reading
 fed s [] = s
 fed s (b ∷ more) = fed (next s b) more
 
+-- a bitmap with these sides
+abbrev pub bitmap : ℕ → ℕ → Option Sides
+bitmap w h = Some (record { width = w; height = h })
+
 -- what a file is that ends among the pixels
-unfoldable pub ended_at : Body → Input
-ended_at p = cond (eqb p.count (p.width * p.height)) (Bitmap p.width p.height) Refused
+unfoldable pub ended_at : Body → Option Sides
+ended_at p = cond (eqb p.count (p.width * p.height)) (bitmap p.width p.height) None
 
 -- what a file is that ends in a state: a bitmap only among the pixels
-unfoldable pub ended_in : Reader → Input
-ended_in Nothing = Refused
-ended_in Letter = Refused
-ended_in Magic = Refused
-ended_in BeforeWidth = Refused
-ended_in (Width n) = Refused
-ended_in (BeforeHeight w) = Refused
-ended_in (Height w n) = Refused
+unfoldable pub ended_in : Reader → Option Sides
+ended_in Nothing = None
+ended_in Letter = None
+ended_in Magic = None
+ended_in BeforeWidth = None
+ended_in (Width n) = None
+ended_in (BeforeHeight w) = None
+ended_in (Height w n) = None
 ended_in (Pixels p) = ended_at p
-ended_in Broken = Refused
+ended_in Broken = None
 
 -- ten to the power n
 unfoldable pub decades : ℕ → ℕ

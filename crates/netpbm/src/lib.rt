@@ -39,11 +39,11 @@ pub enum Reader {
     Broken,
 }
 
-// What a file is: a bitmap with these sides, or none.
+// The sides of a bitmap.
 #[derive(Clone, Copy)]
-pub enum Input {
-    Bitmap(usize, usize),
-    Refused,
+pub struct Sides {
+    pub width: usize,
+    pub height: usize,
 }
 
 // The state before the first byte.
@@ -59,24 +59,21 @@ pub fn feed(reader: Reader, chunk: &[u8], pixels: &mut [u8]) -> Reader
     ensures { GoesOn pixels.old reader chunk.now pixels.new result }
 {
     let mut state = reader;
-    let mut i = 0;
-    while i < chunk.len() {
-        let byte = chunk[i];
+    for &byte in chunk {
         step::keep(state, byte, pixels);
         state = step::step(state, byte);
-        i += 1;
     }
     state
 }
 
-// What the file is, now that it has ended: its end serves as white space.
-pub fn finish(reader: Reader) -> Input
+// What the file is, now that it has ended: a bitmap with these sides, or none. Its end serves as white space.
+pub fn finish(reader: Reader) -> Option<Sides>
     requires { Bounded reader }
     ensures { Answers reader result }
 {
     let end = step::step(reader, b' ');
     match end {
         Reader::Pixels(body) => step::ended(body),
-        _ => Input::Refused,
+        _ => None,
     }
 }

@@ -3,7 +3,7 @@ ghost use Rattle.netpbm.specs.Form.{most_pixels};
 ghost use Rattle.netpbm.specs.Machine.{in_width, in_height, sized, takes_pixel, in_pixels, kept_in, stepped, kept, ended_at, Below, Within, Bounded};
 
 use crate::bytes::{is_bit, is_space};
-use crate::{Body, Input, Number, Reader};
+use crate::{Body, Number, Reader, Sides};
 
 // A stage that a byte leads to, or the form broken.
 fn reach(holds: bool, next: Reader) -> Reader
@@ -141,13 +141,16 @@ pub fn step(reader: Reader, byte: u8) -> Reader
 }
 
 // What a file is that ends among the pixels: a bitmap, if it has them all.
-pub fn ended(body: Body) -> Input
+pub fn ended(body: Body) -> Option<Sides>
     requires { Within body }
     ensures { result ≡ ended_at body }
 {
     if body.count == body.width * body.height {
-        Input::Bitmap(body.width, body.height)
+        Some(Sides {
+            width: body.width,
+            height: body.height,
+        })
     } else {
-        Input::Refused
+        None
     }
 }

@@ -1,4 +1,6 @@
 -- What is known of an outline that is drawn, and that an answer is determined. Assumes nothing.
+use Rattle.std.specs.Prelude.{Option, Some, None, Result, Ok, Err}
+use Rattle.refusals.specs.declared.Refusal.{Refusal}
 use Prim.Native.Nat.{ℕ}
 use native.Mathlib.Omega.{arith}
 use mathlib.Core.Path.{◌≡◌, refl, ap}
@@ -10,8 +12,6 @@ use Rattle.points.specs.declared.Point.{Point}
 use Rattle.stated.specs.Stated.{judged}
 use Rattle.stated.proofs.Reach.{judged_near}
 use Rattle.lines.specs.Meet.{meet_of}
-use Rattle.lines.specs.declared.Meet.{Meet}
-use Rattle.lines.specs.declared.Meet.TheVariants.{At, Nowhere}
 use Rattle.corners.specs.Scores.{Direction}
 use Rattle.groups.specs.Group.{Centred, Cornered}
 use Rattle.groups.specs.Orient.{oriented}
@@ -24,8 +24,6 @@ use Rattle.timing.proofs.Measures.{measured_size}
 use Rattle.version_db.specs.AnnexE.{version_of}
 use Rattle.outline.specs.Outline.{meaning, outlined, cornered, judged_outline, met_outline, crossed_outline, measured_outline, sized_outline, turned_outline, outline_of, Sketched}
 use Rattle.outline.specs.declared.Outline.{Outline}
-use Rattle.outline.specs.declared.Outlined.{Outlined}
-use Rattle.outline.specs.declared.Outlined.TheVariants.{Drawn, Apart, Refused}
 
 module _ (g : CapStoneGroup) (hd : Point) (o : Outline) where
   -- an outline of this group, direction and size, with a corner that is near
@@ -41,10 +39,10 @@ module _ (g : CapStoneGroup) (hd : Point) (o : Outline) where
       record { corner = corner; is = cc; near = rw j.0 at j.1 }
   cornered_drawn size p (refused n) e d = let z : ◌≡◌ {A = ℕ} 0 1 = cc in absurd (omega arith)
 
-  met_drawn : (size : ℕ) (m : Meet) → met_outline g hd size m ≡ found (o ∷ []) → Of size
+  met_drawn : (size : ℕ) (m : Option Point) → met_outline g hd size m ≡ found (o ∷ []) → Of size
   unfolding met_outline judged_outline
-  met_drawn size (At corner) d = cornered_drawn size corner (judged corner) refl d
-  met_drawn size Nowhere d = let z : ◌≡◌ {A = ℕ} 0 1 = cc in absurd (omega arith)
+  met_drawn size (Some corner) d = cornered_drawn size corner (judged corner) refl d
+  met_drawn size None d = let z : ◌≡◌ {A = ℕ} 0 1 = cc in absurd (omega arith)
 
   measured_drawn : (f : Finding ℕ) → measured_outline g hd f ≡ found (o ∷ []) → (size : ℕ) × (f ≡ found size) × Of size
   unfolding measured_outline crossed_outline
@@ -70,13 +68,13 @@ module _ (pic : List ℕ) (width height : ℕ) (o : Outline) where
   outline_drawn g A C d =
       turned_drawn (oriented g).hd (rotated_group (oriented g)) (λ t e. rotated_cornered (oriented g) t e (oriented_cornered g C)) (oriented_direction g A) d
 
-pub meaning_only : (a b : Outlined) → meaning a ≡ meaning b → a ≡ b
-meaning_only (Drawn o) (Drawn p) e = cc
-meaning_only (Drawn o) Apart e = cc
-meaning_only (Drawn o) (Refused why) e = cc
-meaning_only Apart (Drawn p) e = cc
-meaning_only Apart Apart e = refl
-meaning_only Apart (Refused why) e = cc
-meaning_only (Refused why) (Drawn p) e = cc
-meaning_only (Refused why) Apart e = cc
-meaning_only (Refused why) (Refused other) e = ap Refused (refusal_only {a = why} {b = other} e)
+pub meaning_only : (a b : Result (Option Outline) Refusal) → meaning a ≡ meaning b → a ≡ b
+meaning_only (Ok (Some o)) (Ok (Some p)) e = cc
+meaning_only (Ok (Some o)) (Ok None) e = cc
+meaning_only (Ok (Some o)) (Err why) e = cc
+meaning_only (Ok None) (Ok (Some p)) e = cc
+meaning_only (Ok None) (Ok None) e = refl
+meaning_only (Ok None) (Err why) e = cc
+meaning_only (Err why) (Ok (Some p)) e = cc
+meaning_only (Err why) (Ok None) e = cc
+meaning_only (Err why) (Err other) e = ap Err (refusal_only {a = why} {b = other} e)

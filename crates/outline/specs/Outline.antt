@@ -1,12 +1,11 @@
 -- A group's outline: document 01, "Groups and grids"; which lines meet at the fourth corner is taken from the Rust, `from_group`. Definitions alone.
-use Rattle.std.specs.Prelude.{ℕ, List, [], ◌∷◌}
+use Rattle.std.specs.Prelude.{ℕ, List, [], ◌∷◌, Option, Some, None, Result, Ok, Err}
+use Rattle.refusals.specs.declared.Refusal.{Refusal}
 use Rattle.refusals.specs.Finding.{Finding, found, refused, refused_by}
 use Rattle.points.specs.Range.{Near}
 use Rattle.points.specs.declared.Point.{Point}
 use Rattle.stated.specs.Stated.{judged}
 use Rattle.lines.specs.Meet.{meet_of}
-use Rattle.lines.specs.declared.Meet.{Meet}
-use Rattle.lines.specs.declared.Meet.TheVariants.{At, Nowhere}
 use Rattle.corners.specs.Scores.{Direction}
 use Rattle.grids.specs.Grid.{Modules}
 use Rattle.groups.specs.Group.{Cornered}
@@ -15,14 +14,12 @@ use Rattle.groups.specs.Rotate.{rotated_group}
 use Rattle.groups.specs.declared.CapStoneGroup.{CapStoneGroup}
 use Rattle.timing.specs.Measure.{measured_of}
 use Rattle.outline.specs.declared.Outline.{Outline}
-use Rattle.outline.specs.declared.Outlined.{Outlined}
-use Rattle.outline.specs.declared.Outlined.TheVariants.{Drawn, Apart, Refused}
 
 -- an answer in document 01's terms: the outline, or none, where there is no grid, or a refusal's number
-abbrev pub meaning : Outlined → Finding (List Outline)
-meaning (Drawn o) = found (o ∷ [])
-meaning Apart = found []
-meaning (Refused why) = refused_by why
+abbrev pub meaning : Result (Option Outline) Refusal → Finding (List Outline)
+meaning (Ok (Some o)) = found (o ∷ [])
+meaning (Ok None) = found []
+meaning (Err why) = refused_by why
 
 abbrev pub outlined : CapStoneGroup → Point → ℕ → Point → Outline
 outlined g hd size corner = record { group = g; hd = hd; size = size; corner = corner }
@@ -38,9 +35,9 @@ module _ (g : CapStoneGroup) (hd : Point) where
   judged_outline size corner = cornered size (judged corner)
 
   -- no grid where the lines stay apart
-  unfoldable pub met_outline : ℕ → Meet → Finding (List Outline)
-  met_outline size (At corner) = judged_outline size corner
-  met_outline size Nowhere = found []
+  unfoldable pub met_outline : ℕ → Option Point → Finding (List Outline)
+  met_outline size (Some corner) = judged_outline size corner
+  met_outline size None = found []
 
   -- the first stone's upper side, drawn on, meets the third's left side
   unfoldable pub crossed_outline : ℕ → Finding (List Outline)

@@ -6,12 +6,11 @@ ghost use Rattle.picture.specs.Sides.{Sized};
 ghost use Rattle.groups.specs.Group.{Centred, Cornered};
 ghost use Rattle.outline.specs.Outline.{meaning, judged_outline, crossed_outline, sized_outline, outline_of};
 
-use groups::{CapStoneGroup, Rotation, orient, rotate_group};
-use lines::{Meet, line_intersect};
+use groups::{CapStoneGroup, orient, rotate_group};
+use lines::line_intersect;
 use points::Point;
 use refusals::Refusal;
-use stated::Stated;
-use timing::{Measured, measure_timing_pattern};
+use timing::measure_timing_pattern;
 
 // The stones in order and turned, the direction from the first to the third, the modules along a side, and the fourth corner by the lines of the others.
 #[derive(Clone, Copy)]
@@ -22,40 +21,36 @@ pub struct Outline {
     pub corner: Point,
 }
 
-// What a group's outline comes to: it is drawn, its lines stay apart, which is no refusal, or there is a refusal.
-#[derive(Clone, Copy)]
-pub enum Outlined {
-    Drawn(Outline),
-    Apart,
-    Refused(Refusal),
-}
-
 // The outline with this corner: 12 where it lies too far out.
-fn with_corner(group: CapStoneGroup, hd: Point, size: usize, corner: Point) -> Outlined
+fn with_corner(
+    group: CapStoneGroup,
+    hd: Point,
+    size: usize,
+    corner: Point,
+) -> Result<Option<Outline>, Refusal>
     ensures { meaning result ≡ judged_outline group hd size corner }
 {
-    match stated::judge(corner) {
-        Stated::At(p) => Outlined::Drawn(Outline {
-            group: group,
-            hd: hd,
-            size: size,
-            corner: p,
-        }),
-        Stated::Refused(why) => Outlined::Refused(why),
-    }
+    let p = stated::judge(corner)?;
+    Ok(Some(Outline {
+        group: group,
+        hd: hd,
+        size: size,
+        corner: p,
+    }))
 }
 
 // The outline with this size: the corner is where the first stone's line meets the third's.
-fn with_size(group: CapStoneGroup, hd: Point, size: usize) -> Outlined
+fn with_size(group: CapStoneGroup, hd: Point, size: usize) -> Result<Option<Outline>, Refusal>
     requires { Cornered group }
     ensures { meaning result ≡ crossed_outline group hd size }
 {
     let first = group.first;
     let third = group.third;
-    match line_intersect(first.corner0, first.corner1, third.corner0, third.corner3) {
-        Meet::At(corner) => with_corner(group, hd, size, corner),
-        Meet::Nowhere => Outlined::Apart,
-    }
+    let Some(corner) = line_intersect(first.corner0, first.corner1, third.corner0, third.corner3)
+    else {
+        return Ok(None);
+    };
+    with_corner(group, hd, size, corner)
 }
 
 // The outline of stones in order and turned: 13, 12, 14 as the timing pattern gives them.
@@ -65,7 +60,7 @@ fn outline_turned(
     height: usize,
     group: CapStoneGroup,
     hd: Point,
-) -> Outlined
+) -> Result<Option<Outline>, Refusal>
     requires fact_1 { Sized width height (length pic.now) }
     requires fact_2 { Cornered group }
     ensures { meaning result ≡ sized_outline pic.now width height group hd }
@@ -73,14 +68,17 @@ fn outline_turned(
     let first = group.first;
     let second = group.second;
     let third = group.third;
-    match measure_timing_pattern(pic, width, height, first.c, second.c, third.c) {
-        Measured::Size(size) => with_size(group, hd, size),
-        Measured::Refused(why) => Outlined::Refused(why),
-    }
+    let size = measure_timing_pattern(pic, width, height, first.c, second.c, third.c)?;
+    with_size(group, hd, size)
 }
 
 // The outline of a group: 15; then 13, 12, 14 of the timing pattern; then 12 of the corner.
-pub fn outline_of(pic: &[u8], width: usize, height: usize, group: CapStoneGroup) -> Outlined
+pub fn outline_of(
+    pic: &[u8],
+    width: usize,
+    height: usize,
+    group: CapStoneGroup,
+) -> Result<Option<Outline>, Refusal>
     requires fact_1 { Sized width height (length pic.now) }
     requires fact_2 { Centred group }
     requires fact_3 { Cornered group }
@@ -88,8 +86,6 @@ pub fn outline_of(pic: &[u8], width: usize, height: usize, group: CapStoneGroup)
 {
     let o = orient(group);
     let hd = o.hd;
-    match rotate_group(o) {
-        Rotation::Group(turned) => outline_turned(pic, width, height, turned, hd),
-        Rotation::Turned => Outlined::Refused(Refusal::Turned),
-    }
+    let turned = rotate_group(o).ok_or(Refusal::Turned)?;
+    outline_turned(pic, width, height, turned, hd)
 }

@@ -1,13 +1,12 @@
 -- A bitmap, byte by byte: what the test of the whole says of each, and the test as a run through the bytes makes it. Assumes nothing.
-use Prim.Native.Nat.{ℕ, zero, suc, ◌+◌, ◌≤◌, ◌<◌, max}
-use mathlib.Core.Path.{◌≡◌, refl}
-use mathlib.Core.Bool.{Bool, true, false, ◌&&◌, and_assoc}
+use Prim.Native.Nat.{ℕ, zero, suc, ◌≤◌, ◌<◌, max}
+use mathlib.Core.Path.{◌≡◌, refl, sym, ◌∙◌}
+use mathlib.Core.Bool.{Bool, true, false, ◌&&◌, and_assoc, and-true}
 use mathlib.Core.List.{List, [], ◌∷◌, ◌++◌}
 use native.Mathlib.Omega.{arith}
-use native.Mathlib.Numerals.{add-one}
 use lib.Dec.{leb}
-use lib.ListN.{length, get_or, drop}
-use lib.Seq.{drop-cons}
+use lib.ListN.{length, get_or}
+use Rattle.std.specs.List.{fold}
 use borrow.Author.Tests.{leb-true, leb-false, le-leb, lt-leb, not-false}
 use Rattle.refusals.specs.First.{first, sound}
 use Rattle.refusals.proofs.First.{clear, first_clear}
@@ -33,10 +32,11 @@ leb_max a b = go (leb a 1) refl (leb b 1) refl
     go true d false e = let y = leb-false b 1 e in lt-leb (max a b) 1 (omega arith)
     go false d t e = let x = leb-false a 1 d in lt-leb (max a b) 1 (omega arith)
 
--- one byte more in the largest of those passed
-pub bitmap_step : (p : List ℕ) (i largest : ℕ) → i < length p → (leb largest 1 && bitmap (drop i p)) ≡ (leb (max largest (get_or p i 0)) 1 && bitmap (drop (i + 1) p))
+-- the largest of a and some bytes
+pub largest_low : (p : List ℕ) (a : ℕ) → leb (fold max a p) 1 ≡ (leb a 1 && bitmap p)
 unfolding bitmap
-bitmap_step p i largest h = rw (add-one, drop-cons p i 0 h, leb_max, and_assoc)
+largest_low [] a = sym (and-true (leb a 1))
+largest_low (b ∷ p) a = largest_low p (max a b) ∙ rw (leb_max, and_assoc)
 
 -- what accept takes, and the other way
 pub accepted : (pic : List ℕ) (width height : ℕ) → first (accept_tests pic width height) sound ≡ sound → Accepted pic width height

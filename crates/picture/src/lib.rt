@@ -7,11 +7,11 @@ mod color;
 mod ladder;
 
 pub use bitmap::accept;
-pub use color::{byte_of, color_of};
+pub use color::byte_of;
 pub use ladder::{room, seeded, sides};
 
 // What a byte of a picture stands for. A numbered piece is Discarded, with its number.
-#[derive(Clone, Copy)]
+#[derive(Clone, Copy, Debug, PartialEq, Eq)]
 pub enum PixelColor {
     White,
     Black,
@@ -19,11 +19,4 @@ pub enum PixelColor {
     Alignment,
     Tmp1,
     Discarded(u8),
-}
-
-// What the tests before an operation say: nothing to refuse, or why.
-#[derive(Clone, Copy)]
-pub enum Verdict {
-    Sound,
-    Refused(Refusal),
 }

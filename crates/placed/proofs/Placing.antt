@@ -1,4 +1,5 @@
 -- A tame perspective places every point that lies in the grid. Assumes nothing.
+use Rattle.std.specs.Prelude.{Some}
 use Prim.Native.Nat.{ℕ, ◌+◌, ◌*◌, ◌^◌, ◌≤◌, ◌<◌}
 use native.Mathlib.Nat.{le_refl, mul-pos, div-lt_iff_lt-mul}
 use native.Mathlib.Omega.{arith}
@@ -12,7 +13,6 @@ use lib.Ieee.Fits.{down_pos}
 use borrow.Author.Tests.{leb-true, lt-ltb, le-leb}
 use Rattle.refusals.specs.Finding.{found}
 use Rattle.rounding.specs.Nearest.{half_up, held, nearest_of}
-use Rattle.rounding.specs.declared.Whole.TheVariants.{At}
 use Rattle.floats.specs.Float64.{◌⊕◌, ◌⊗◌, ◌⊘◌, float, one}
 use Rattle.points.specs.declared.Point.{Point}
 use Rattle.geometry.specs.Map.{placed, map_den, map_x, map_y, mapped}
@@ -120,7 +120,7 @@ unfolding half_up
 half_up_low a b p h = (div-lt_iff_lt-mul (mul-pos (lit< tt) p)).1 (omega arith)
 
 -- with either sign
-rounded : (x : Float) → Under x (2 ^ 29) 1 → (z : ℤ) × (nearest_of x ≡ At z)
+rounded : (x : Float) → Under x (2 ^ 29) 1 → (z : ℤ) × (nearest_of x ≡ Some z)
 unfolding nearest_of held
 rounded nan v = absurd v
 rounded (inf s) v = absurd v
@@ -133,7 +133,7 @@ rounded (fin true m e) v =
     (neg_ℤ (pos n), rw (le-leb n (2 ^ 31) (omega arith)))
 
 -- a numerator over a denominator
-quotient : (x y : Float) → Under x (2 ^ 28) 1 → Over y 1 2 → (z : ℤ) × (nearest_of (x ⊘ y) ≡ At z)
+quotient : (x y : Float) → Under x (2 ^ 28) 1 → Over y 1 2 → (z : ℤ) × (nearest_of (x ⊘ y) ≡ Some z)
 quotient x y p q = rounded (x ⊘ y) (div_under x y (2 ^ 28) 1 1 2 (2 ^ 29) 1 p q (lit< tt) (lit< tt) (lit< tt) (whole_exact (2 ^ 29) (lit≤ tt)) (lit≤ tt))
 
 -- ---- the point at two parts of the cell in column x of line y

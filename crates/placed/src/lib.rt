@@ -10,10 +10,7 @@ use geometry::Perspective;
 fn is_within(x: f64, limit: f64) -> bool
     ensures { result ≡ within limit x }
 {
-    if x < limit {
-        return -limit < x;
-    }
-    false
+    x < limit && -limit < x
 }
 
 // How far c6 and c7 may be from 0, for a grid of so many cells along a side.

@@ -4,7 +4,7 @@ use mathlib.Core.Path.{◌≡◌, refl, sym, ap, ◌∙◌}
 use mathlib.Core.Bool.{Bool, true, false, cond}
 use mathlib.Core.List.{List, [], ◌++◌, reverse, append_assoc, append-nil}
 use native.Mathlib.Omega.{arith}
-use native.Mathlib.Nat.{mul_comm, mul-le-mul_right, sub-zero}
+use native.Mathlib.Nat.{mul_comm, mul-le-mul_right}
 use lib.ListN.{length, take, drop, length-append, length-drop}
 use lib.Seq.{take_all, take_at, drop_at, length-take-le}
 use Rattle.refusals.specs.Limits.{longest_side}
@@ -37,19 +37,6 @@ pub record Onward (s width height : ℕ) (before pic lefts rights : List ℕ) (l
   pub rights_long : length rights ≡ longest_side
   pub whole : take base pic ++ turned s width (height - y) left right (drop base pic) ≡ turned s width height 0 0 before
 
-pub onward_starts : (s width height : ℕ) (pic lefts rights : List ℕ) → length pic ≡ width * height → Low 255 pic → length lefts ≡ longest_side → length rights ≡ longest_side → Onward s width height pic pic lefts rights 0 0 0 0
-onward_starts s width height pic lefts rights e bytes p q = record {
-  within = omega arith;
-  here = omega arith;
-  long = e;
-  bytes = bytes;
-  left_low = omega arith;
-  right_low = omega arith;
-  lefts_long = p;
-  rights_long = q;
-  whole = rw sub-zero;
-}
-
 module _ (s width height : ℕ) (before pic lefts rights : List ℕ) (left right base y : ℕ) (m : Onward s width height before pic lefts rights left right base y) where
   -- a row that is still to come lies in the picture
   pub row_within : y < height → base + width ≤ length pic
@@ -67,12 +54,12 @@ module _ (s width height : ℕ) (before pic lefts rights : List ℕ) (left right
       sym (rw (append-nil, take_all base pic end)) ∙ (rw done at m.whole)
 
   -- one row more: it stands in the picture between the rows above and those below, and the averages have changed sides
-  pub onward_goes_on : (k : ℕ) (row lefts' rights' : List ℕ) (left' right' : ℕ) → y < height → 1 ≤ s → k ≡ width → row ≡ shaded s left right (take k (drop base pic)) → length row ≡ length (take k (drop base pic))
+  pub onward_goes_on : (k next : ℕ) (row lefts' rights' : List ℕ) (left' right' : ℕ) → y < height → 1 ≤ s → k ≡ width → next ≡ base + width → row ≡ shaded s left right (take k (drop base pic)) → length row ≡ length (take k (drop base pic))
       → Low 255 (take base pic ++ (row ++ drop k (drop base pic)))
       → left' ≡ after s right (reverse (take k (drop base pic))) → right' ≡ after s left (take k (drop base pic)) → length lefts' ≡ longest_side → length rights' ≡ longest_side
-      → Onward s width height before (take base pic ++ (row ++ drop k (drop base pic))) lefts' rights' left' right' (base + width) (y + 1)
+      → Onward s width height before (take base pic ++ (row ++ drop k (drop base pic))) lefts' rights' left' right' next (y + 1)
   unfolding turned
-  onward_goes_on k row lefts' rights' left' right' h some is shade-row row-long bytes left_end right_end p q =
+  onward_goes_on k next row lefts' rights' left' right' h some is below-row shade-row row-long bytes left_end right_end p q =
       let fits : base + width ≤ length pic = row_within h in
       let below = length-drop base pic in
       let line = take k (drop base pic) in
@@ -84,6 +71,7 @@ module _ (s width height : ℕ) (before pic lefts rights : List ℕ) (left right
       let line_low : Low 255 line = low_take 255 k (drop base pic) (low_drop 255 base pic m.bytes) in
       let more : height - y ≡ suc (height - (y + 1)) = omega arith in
       let joined = sym (append_assoc (take base pic) row rest) in
+      rw below-row
       record {
         within = omega arith;
         here = omega (arith, m.here);

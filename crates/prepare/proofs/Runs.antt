@@ -1,14 +1,14 @@
 -- Both averages along a row, one from each end: where the run stands after some columns, one column more, and its end. Assumes nothing.
-use Prim.Native.Nat.{ℕ, suc, ◌+◌, ◌-◌, ◌*◌, ◌≤◌, ◌<◌}
+use Prim.Native.Nat.{ℕ, suc, ◌+◌, ◌*◌, ◌≤◌, ◌<◌}
 use mathlib.Core.Path.{◌≡◌, refl, sym, ap, ◌∙◌}
 use mathlib.Core.List.{List, [], ◌∷◌, ◌++◌, reverse, append_assoc, append-nil, reverse-append, reverse-cons}
 use native.Mathlib.Omega.{arith}
 use native.Mathlib.Numerals.{add-one}
 use lib.ListN.{length, get_or, take, drop, set, length-set, length-reverse}
-use lib.Seq.{drop-cons, drop-length, take-length, take-suc, take-suc-set, slice, slice-cons, slice_empty, get_or-set_same, drop-set-lt, take-set-lt}
+use lib.Seq.{drop-cons, drop-length, take-suc, take-suc-set, slice, slice-cons, get_or-set_same, drop-set-lt, take-set-lt}
 use Rattle.prepare.specs.Threshold.{step, after, along, from_right}
 use Rattle.prepare.proofs.Reciprocal.{step_low}
-use Rattle.prepare.specs.Run.{Ready, Kept}
+use Rattle.prepare.specs.Run.{Kept}
 
 pub along_length : (s average : ℕ) (row : List ℕ) → length (along s average row) ≡ length row
 unfolding along
@@ -62,37 +62,23 @@ right_more s b row rights r h k =
 after_right_more : (s b : ℕ) (row : List ℕ) (r : ℕ) → r < length row → after s b (reverse (take (suc r) row)) ≡ after s (step s b (get_or row r 0)) (reverse (take r row))
 after_right_more s b row r h = rw (take-suc row r 0 h) (after_snoc s b (take r row) (get_or row r 0))
 
-pub midway_starts : (s left right : ℕ) (row lefts rights : List ℕ) → Ready s left right row lefts rights → Midway s left right row lefts rights left right 0 (length row)
-midway_starts s left right row lefts rights ready = record {
-  meets = omega arith;
-  left_room = ready.left_room;
-  right_room = ready.right_room;
-  a_low = ready.left_low;
-  b_low = ready.right_low;
-  lefts_whole = refl;
-  rights_whole = rw (take-length, slice_empty, append-nil);
-  a_whole = refl;
-  b_whole = rw take-length;
-}
-
--- one column more from both ends
-pub midway_goes_on : (s left right : ℕ) (row lefts rights : List ℕ) (a b x r a' b' : ℕ) → 1 ≤ s → ((i : ℕ) → get_or row i 0 ≤ 255) → x < length row
-    → a' ≡ step s a (get_or row x 0) → b' ≡ step s b (get_or row (r - 1) 0)
+-- one column more from both ends: r columns were left, r' are left now, and q is r' as the loop has it
+pub midway_goes_on : (s left right : ℕ) (row lefts rights : List ℕ) (a b x r r' q a' b' : ℕ) → 1 ≤ s → ((i : ℕ) → get_or row i 0 ≤ 255) → x < length row → r ≡ suc r' → q ≡ r'
+    → a' ≡ step s a (get_or row x 0) → b' ≡ step s b (get_or row r' 0)
     → Midway s left right row lefts rights a b x r
-    → Midway s left right row (set lefts x a') (set rights (r - 1) b') a' b' (x + 1) (r - 1)
-midway_goes_on s left right row lefts rights a b x r a' b' some bytes h p q m =
-    let e : r ≡ suc (r - 1) = omega arith in
-    rw (p, q)
+    → Midway s left right row (set lefts x a') (set rights r' b') a' b' (x + 1) q
+midway_goes_on s left right row lefts rights a b x r r' q a' b' some bytes h e d f g m =
+    rw (d, f, g)
     record {
       meets = omega arith;
       left_room = simp length-set m.left_room;
       right_room = simp length-set m.right_room;
       a_low = step_low s a (get_or row x 0) some m.a_low (bytes x);
-      b_low = step_low s b (get_or row (r - 1) 0) some m.b_low (bytes (r - 1));
+      b_low = step_low s b (get_or row r' 0) some m.b_low (bytes r');
       lefts_whole = sym (along_more s a row lefts x h (omega arith)) ∙ m.lefts_whole;
-      rights_whole = sym (right_more s b row rights (r - 1) (omega arith) (omega arith)) ∙ (rw e at m.rights_whole);
+      rights_whole = sym (right_more s b row rights r' (omega arith) (omega arith)) ∙ (rw e at m.rights_whole);
       a_whole = sym (after_more s a row x h) ∙ m.a_whole;
-      b_whole = sym (after_right_more s b row (r - 1) (omega arith)) ∙ (rw e at m.b_whole);
+      b_whole = sym (after_right_more s b row r' (omega arith)) ∙ (rw e at m.b_whole);
     }
 
 pub midway_ends : (s left right : ℕ) (row lefts rights : List ℕ) (a b x r : ℕ) → length row ≤ x → Midway s left right row lefts rights a b x r

@@ -32,15 +32,12 @@ pub fn run(row: &[u8], s: u16, left: u64, right: u64, lefts: &mut [u16], rights:
     let k = reciprocal(s as u64);
     let mut a = left;
     let mut b = right;
-    let mut x = 0;
-    let mut r = row.len();
-    while x < row.len() {
-        r -= 1;
+    for x in 0..row.len() {
+        let r = row.len() - 1 - x;
         a = next(a, k, row[x]);
         b = next(b, k, row[r]);
         lefts[x] = a as u16;
         rights[r] = b as u16;
-        x += 1;
     }
     Ends { left: a, right: b }
 }

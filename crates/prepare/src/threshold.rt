@@ -25,11 +25,9 @@ fn shade_row(row: &mut [u8], s: u16, lefts: &[u16], rights: &[u16])
     requires { (1 ≤ s) × (s ≤ 100) × Columns row.old lefts.now rights.now }
     ensures { row.new ≡ zip_with (shadeOf s) row.old (zip_with ◌+◌ (take (length row.old) lefts.now) (take (length row.old) rights.now)) }
 {
-    let mut x = 0;
-    while x < row.len() {
+    for (x, pixel) in row.iter_mut().enumerate() {
         let sum = lefts[x] + rights[x];
-        row[x] = shade(row[x], s, sum);
-        x += 1;
+        *pixel = shade(*pixel, s, sum);
     }
 }
 
@@ -78,14 +76,11 @@ pub fn threshold(pic: &mut [u8], width: usize, height: usize)
     let mut rights = columns();
     let mut left: u64 = 0;
     let mut right: u64 = 0;
-    let mut base = 0;
-    let mut y = 0;
-    while y < height {
-        let end = base + width;
-        let ends = threshold_row(&mut pic[base..end], s, left, right, &mut lefts, &mut rights);
+    for y in 0..height {
+        let base = y * width;
+        let row = &mut pic[base..base + width];
+        let ends = threshold_row(row, s, left, right, &mut lefts, &mut rights);
         left = ends.right;
         right = ends.left;
-        base = end;
-        y += 1;
     }
 }

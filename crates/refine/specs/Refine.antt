@@ -1,5 +1,5 @@
 -- Refinement: document 01, "five passes of sixteen trials, kept only when the score is strictly higher". What is tried in which order is taken from the Rust, `jiggle_perspective`. Definitions alone.
-use Rattle.std.specs.Prelude.{ℕ, zero, suc, cond, List, ℤ}
+use Rattle.std.specs.Prelude.{ℕ, zero, suc, cond, List, ℤ, Option, Some, None}
 use Rattle.std.specs.Int.Signed.{lt_z}
 use Rattle.refusals.specs.Finding.{Finding, found, refused, refused_by}
 use Rattle.refusals.specs.declared.Refusal.TheVariants as refusal
@@ -8,13 +8,11 @@ use Rattle.cell_fitness.specs.Seen.{ratio}
 use Rattle.fitness.specs.Fitness.{fitness_of}
 use Rattle.refine.specs.Adjust.{scaled, adjustments, adjusted}
 use Rattle.refine.specs.declared.Refined.{Refined}
-use Rattle.refine.specs.declared.Refinement.{Refinement}
-use Rattle.refine.specs.declared.Refinement.TheVariants.{Done, Unplaced}
 
 -- an answer in document 01's terms: a perspective and its score, or 13
-abbrev pub meaning : Refinement → Finding Refined
-meaning (Done r) = found r
-meaning Unplaced = refused_by refusal.Unplaced
+abbrev pub meaning : Option Refined → Finding Refined
+meaning (Some r) = found r
+meaning None = refused_by refusal.Unplaced
 
 -- a perspective with its score
 unfoldable pub scored : Perspective → Finding ℤ → Finding Refined

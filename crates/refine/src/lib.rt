@@ -18,13 +18,6 @@ pub struct Refined {
     pub score: i32,
 }
 
-// What refinement arrives at, or a point that lies nowhere (refusal 13).
-#[derive(Clone, Copy)]
-pub enum Refinement {
-    Done(Refined),
-    Unplaced,
-}
-
 // The perspective that five passes of adjustments lead to, from c, for a grid with so many cells along a side.
 pub fn jiggle_perspective(
     pic: &[u8],
@@ -32,18 +25,16 @@ pub fn jiggle_perspective(
     height: usize,
     c: Perspective,
     size: usize,
-) -> Refinement
+) -> Option<Refined>
     requires fact_1 { Sized width height (length pic.now) }
     requires fact_2 { GridSize size }
     ensures { meaning result ≡ refined_of pic.now width height size c }
 {
     let mut best = trial::scored(c, fitness::fitness_all(pic, width, height, c, size));
     let mut steps = adjust::scaled(c, 0.02);
-    let mut n: usize = 0;
-    while n < 5 {
+    for _ in 0..5usize {
         best = trial::pass(pic, width, height, best, steps, size);
         steps = adjust::scaled(steps, 0.5);
-        n += 1;
     }
     best
 }

@@ -6,17 +6,17 @@ ghost use Rattle.cell_fitness.specs.Scores as fit;
 ghost use Rattle.fitness.specs.Fitness.{GridSize, fitness_of};
 ghost use Rattle.refine.specs.Refine.{meaning, scored, better, judged, trial, trials};
 
-use crate::{Refined, Refinement, adjust};
+use crate::{Refined, adjust};
 use cell_fitness::Fitness;
 use geometry::Perspective;
 
 // A perspective with its score.
-pub fn scored(c: Perspective, f: Fitness) -> Refinement
+pub fn scored(c: Perspective, f: Fitness) -> Option<Refined>
     ensures { meaning result ≡ scored c (fit.meaning f) }
 {
     match f {
-        Fitness::Score(score) => Refinement::Done(Refined { c: c, score: score }),
-        Fitness::Unplaced => Refinement::Unplaced,
+        Fitness::Score(score) => Some(Refined { c: c, score: score }),
+        Fitness::Unplaced => None,
     }
 }
 
@@ -31,13 +31,10 @@ fn better(best: Refined, other: Refined) -> Refined
 }
 
 // The same, where the other may be refused.
-fn judged(best: Refined, other: Refinement) -> Refinement
+fn judged(best: Refined, other: Option<Refined>) -> Option<Refined>
     ensures { meaning result ≡ judged best (meaning other) }
 {
-    match other {
-        Refinement::Done(r) => Refinement::Done(better(best, r)),
-        Refinement::Unplaced => Refinement::Unplaced,
-    }
+    Some(better(best, other?))
 }
 
 // Trial i, from the best so far.
@@ -49,7 +46,7 @@ fn tried(
     steps: Perspective,
     i: usize,
     size: usize,
-) -> Refinement
+) -> Option<Refined>
     requires fact_1 { Sized width height (length pic.now) }
     requires fact_2 { GridSize size }
     ensures { meaning result ≡ trial (fitness_of pic.now width height size) steps i (found best) }
@@ -71,19 +68,16 @@ fn trial(
     pic: &[u8],
     width: usize,
     height: usize,
-    earlier: Refinement,
+    earlier: Option<Refined>,
     steps: Perspective,
     i: usize,
     size: usize,
-) -> Refinement
+) -> Option<Refined>
     requires fact_1 { Sized width height (length pic.now) }
     requires fact_2 { GridSize size }
     ensures { meaning result ≡ trial (fitness_of pic.now width height size) steps i (meaning earlier) }
 {
-    match earlier {
-        Refinement::Done(best) => tried(pic, width, height, best, steps, i, size),
-        Refinement::Unplaced => Refinement::Unplaced,
-    }
+    tried(pic, width, height, earlier?, steps, i, size)
 }
 
 // The sixteen trials of a pass.
@@ -91,19 +85,17 @@ pub fn pass(
     pic: &[u8],
     width: usize,
     height: usize,
-    start: Refinement,
+    start: Option<Refined>,
     steps: Perspective,
     size: usize,
-) -> Refinement
+) -> Option<Refined>
     requires fact_1 { Sized width height (length pic.now) }
     requires fact_2 { GridSize size }
     ensures { meaning result ≡ trials (fitness_of pic.now width height size) steps 16 (meaning start) }
 {
     let mut best = start;
-    let mut i: usize = 0;
-    while i < 16 {
+    for i in 0..16 {
         best = trial(pic, width, height, best, steps, i, size);
-        i += 1;
     }
     best
 }

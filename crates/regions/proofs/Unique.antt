@@ -1,4 +1,6 @@
 -- Determined: two outcomes that a lookup's contract allows coincide. Assumes nothing.
+use Rattle.std.specs.Prelude.{Result, Ok, Err}
+use Rattle.refusals.specs.declared.Refusal.{Refusal}
 use Prim.Native.Nat.{ℕ, ◌*◌, ◌<◌}
 use native.Mathlib.Omega.{arith}
 use mathlib.Core.Path.{◌≡◌, sym, ap, ◌∙◌}
@@ -90,17 +92,17 @@ post_unique {p} {w} {h} {lent} {T} {x} {y} (answers a e s d) (answers b g v t) =
     (e ∙ ap found o.0 ∙ sym g, o.1, o.2)
 
 -- an answer that means the same is the same
-meaning_only : (a b : ColoredRegion) → meaning a ≡ meaning b → a ≡ b
-meaning_only (variant.Claimed c) (variant.Claimed d) e = cc
-meaning_only (variant.Claimed c) (variant.Unclaimed s) e = cc
-meaning_only (variant.Claimed c) (variant.Refused u) e = cc
-meaning_only (variant.Unclaimed r) (variant.Claimed d) e = cc
-meaning_only (variant.Unclaimed r) (variant.Unclaimed s) e = cc
-meaning_only (variant.Unclaimed r) (variant.Refused u) e = cc
-meaning_only (variant.Refused t) (variant.Claimed d) e = cc
-meaning_only (variant.Refused t) (variant.Unclaimed s) e = cc
-meaning_only (variant.Refused t) (variant.Refused u) e = ap variant.Refused (refusal_only {a = t} {b = u} e)
+meaning_only : (a b : Result ColoredRegion Refusal) → meaning a ≡ meaning b → a ≡ b
+meaning_only (Ok (variant.Claimed c)) (Ok (variant.Claimed d)) e = cc
+meaning_only (Ok (variant.Claimed c)) (Ok (variant.Unclaimed s)) e = cc
+meaning_only (Ok (variant.Claimed c)) (Err u) e = cc
+meaning_only (Ok (variant.Unclaimed r)) (Ok (variant.Claimed d)) e = cc
+meaning_only (Ok (variant.Unclaimed r)) (Ok (variant.Unclaimed s)) e = cc
+meaning_only (Ok (variant.Unclaimed r)) (Err u) e = cc
+meaning_only (Err t) (Ok (variant.Claimed d)) e = cc
+meaning_only (Err t) (Ok (variant.Unclaimed s)) e = cc
+meaning_only (Err t) (Err u) e = ap Err (refusal_only {a = t} {b = u} e)
 
-pub look_unique : {p : List ℕ} {w h lent : ℕ} {T : Table} {x y : ℕ} (a b : ColoredRegion) {q r : List ℕ} {U W : Table}
+pub look_unique : {p : List ℕ} {w h lent : ℕ} {T : Table} {x y : ℕ} (a b : Result ColoredRegion Refusal) {q r : List ℕ} {U W : Table}
     → LookPost p w h lent T x y (meaning a) q U → LookPost p w h lent T x y (meaning b) r W → Alike a q U b r W
 look_unique a b M N = let s = post_unique M N in (meaning_only a b s.0, s.1, s.2)

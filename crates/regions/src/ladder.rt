@@ -4,7 +4,7 @@ ghost use Rattle.picture.specs.Verdict.{judged};
 ghost use Rattle.picture.specs.Sides.{Sized};
 ghost use Rattle.regions.specs.Tests.{unlisted, own_tests, look_tests};
 
-use picture::{Verdict, seeded};
+use picture::seeded;
 use refusals::Refusal;
 use table::{Table, is_sound};
 
@@ -20,22 +20,29 @@ pub fn is_unlisted(byte: u8, n: usize) -> bool
 }
 
 // The tests of a lookup that are its own: 9, 6, 10.
-fn own(pic: &[u8], width: usize, height: usize, table: Table, x: usize, y: usize) -> Verdict
+fn own(
+    pic: &[u8],
+    width: usize,
+    height: usize,
+    table: Table,
+    x: usize,
+    y: usize,
+) -> Result<(), Refusal>
     requires { Sized width height (length pic.now) × (x < width) × (y < height) }
     ensures { judged result ≡ first (own_tests pic.now width height table x y) sound }
 {
     if !is_sound(table, width, height) {
-        return Verdict::Refused(Refusal::Table);
+        return Err(Refusal::Table);
     }
     let base = y * width;
     let byte = pic[base + x];
     if byte == 0 {
-        return Verdict::Refused(Refusal::White);
+        return Err(Refusal::White);
     }
     if is_unlisted(byte, table.n) {
-        return Verdict::Refused(Refusal::Number);
+        return Err(Refusal::Number);
     }
-    Verdict::Sound
+    Ok(())
 }
 
 // All the tests of a lookup: 1, 2, 3, 5, 9, 6, 10.
@@ -47,11 +54,9 @@ pub fn lookable(
     table: Table,
     x: usize,
     y: usize,
-) -> Verdict
+) -> Result<(), Refusal>
     ensures { judged result ≡ first (look_tests pic.now width height lent table x y) sound }
 {
-    match seeded(width, height, pic.len(), lent, x, y) {
-        Verdict::Refused(why) => Verdict::Refused(why),
-        Verdict::Sound => own(pic, width, height, table, x, y),
-    }
+    seeded(width, height, pic.len(), lent, x, y)?;
+    own(pic, width, height, table, x, y)
 }

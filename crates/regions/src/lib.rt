@@ -5,7 +5,7 @@ ghost use Rattle.regions.specs.Found.{meaning};
 ghost use Rattle.regions.specs.Tests.{Lookable};
 ghost use Rattle.regions.specs.Lookup.{Answered, Looks, LookPost};
 
-use picture::{PixelColor, Verdict, color_of};
+use picture::PixelColor;
 use refusals::Refusal;
 use table::{Entry, Table, put_first};
 
@@ -21,18 +21,17 @@ pub struct Region {
     pub entry: Entry,
 }
 
-// What a lookup finds: a claimed piece's colour, an unclaimed piece's region, or why it refuses.
+// What a lookup finds: a claimed piece's colour, or an unclaimed piece's region.
 #[derive(Clone, Copy)]
 pub enum ColoredRegion {
     Claimed(PixelColor),
     Unclaimed(Region),
-    Refused(Refusal),
 }
 
 // A lookup's answer, beside the table that it leaves.
 #[derive(Clone, Copy)]
 pub struct Looked {
-    pub found: ColoredRegion,
+    pub found: Result<ColoredRegion, Refusal>,
     pub table: Table,
 }
 
@@ -52,7 +51,7 @@ pub fn get_region(
     let byte = pic[y * width + x];
     if number::is_claimed(byte) {
         return Looked {
-            found: ColoredRegion::Claimed(color_of(byte)),
+            found: Ok(ColoredRegion::Claimed(PixelColor::from(byte))),
             table: table,
         };
     }
@@ -68,10 +67,10 @@ pub fn get_region(
     u.age = age;
     u.n = choice.count;
     Looked {
-        found: ColoredRegion::Unclaimed(Region {
+        found: Ok(ColoredRegion::Unclaimed(Region {
             number: k,
             entry: entry,
-        }),
+        })),
         table: u,
     }
 }
@@ -89,10 +88,10 @@ pub fn look_up(
     ensures { LookPost pic.old width height (length stack.old) table x y (meaning result.found) pic.new result.table }
 {
     match ladder::lookable(pic, width, height, stack.len(), table, x, y) {
-        Verdict::Refused(why) => Looked {
-            found: ColoredRegion::Refused(why),
+        Err(why) => Looked {
+            found: Err(why),
             table: table,
         },
-        Verdict::Sound => get_region(pic, width, height, stack, table, x, y),
+        Ok(()) => get_region(pic, width, height, stack, table, x, y),
     }
 }

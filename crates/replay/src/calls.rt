@@ -1,7 +1,5 @@
 // The calls of one run.
-ghost use Rattle.std.specs.Prelude.{◌+◌, ◌≤◌, length};
-
-use crate::{large_buffer, put};
+use crate::put;
 use claim::claim;
 use regions::look_up;
 use std::io;
@@ -44,13 +42,6 @@ fn call(
     Replayed { table: t, at: next }
 }
 
-// The call that stands at k of the script.
-fn step_at(script: &[u8], k: usize) -> [u8; 4]
-    requires { k + 4 ≤ length script.now }
-{
-    [script[k], script[k + 1], script[k + 2], script[k + 3]]
-}
-
 // All calls of the script.
 fn run(
     pic: &mut [u8],
@@ -64,12 +55,9 @@ fn run(
         table: empty(),
         at: 0,
     };
-    let mut k = 0;
-    while k + 4 <= script.len() {
-        let next = k + 4;
-        let step = step_at(script, k);
+    let (steps, _) = script.as_chunks::<4>();
+    for &step in steps {
         now = call(pic, width, height, stack, now, step, out);
-        k = next;
     }
     now
 }
@@ -95,7 +83,7 @@ pub fn replay<W: Write>(
     script: &[u8],
 ) -> io::Result<()> {
     let mut stack = room();
-    let mut out = large_buffer();
+    let mut out = [0u8; 65536];
     let end = run(pic, width, height, &mut stack, script, &mut out);
     let t = end.table;
     let at = end.at;

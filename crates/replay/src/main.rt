@@ -7,18 +7,16 @@
 mod calls;
 mod put;
 
-ghost use Rattle.std.specs.Prelude.{◌≡◌, ◌<◌, length};
-ghost use Rattle.std.specs.Counts.{IsPrefixLen};
+ghost use Rattle.std.specs.Prelude.{◌<◌};
 
+use inputs::read_full;
 use std::io;
 use std::io::{Read, Write};
 
 // Only the lowest bit of a pixel counts.
 fn mask(pic: &mut [u8]) {
-    let mut i = 0;
-    while i < pic.len() {
-        pic[i] = pic[i] % 2;
-        i += 1;
+    for pixel in pic {
+        *pixel %= 2;
     }
 }
 
@@ -26,35 +24,6 @@ fn wide(byte: u8) -> usize
     ensures { result < 256 }
 {
     byte as usize
-}
-
-// Room for the most bytes of a picture, of its calls, or of what came of them.
-fn large_buffer() -> [u8; 65536]
-    ensures { 65536 ≡ length result }
-{
-    [0u8; 65536]
-}
-
-// The next bytes, at the start of the buffer; none where the input has ended or the read failed.
-fn read_some<R: Read>(input: &mut R, buf: &mut [u8]) -> usize
-    ensures { IsPrefixLen result buf.new }
-{
-    input.read(buf).unwrap_or(0)
-}
-
-// Reads until the buffer is full, the input ends or a read fails, and answers how many bytes now stand at its start.
-fn read_full<R: Read>(input: &mut R, buf: &mut [u8]) -> usize
-    ensures { IsPrefixLen result buf.new }
-{
-    let mut done = 0;
-    while done < buf.len() {
-        let more = read_some(input, &mut buf[done..]);
-        if more == 0 {
-            return done;
-        }
-        done += more;
-    }
-    done
 }
 
 // Reads n bytes into lent room.
@@ -109,8 +78,8 @@ fn replay_calls<R: Read, W: Write>(
     }
     let pixels = width * height;
     let length = count * 4;
-    let mut room = large_buffer();
-    let mut script = large_buffer();
+    let mut room = [0u8; 65536];
+    let mut script = [0u8; 65536];
     load(input, &mut room, pixels);
     load(input, &mut script, length);
     mask(&mut room);
@@ -131,12 +100,10 @@ fn replay_run<R: Read, W: Write>(input: &mut R, output: &mut W) -> io::Result<bo
 fn main(rt: HostRuntime) -> io::Result<()> {
     let mut input = rt.stdin();
     let mut output = rt.stdout();
-    let mut left: u32 = 4000000000;
-    while 0 < left {
+    for _ in 0..4000000000u32 {
         if !replay_run(&mut input, &mut output)? {
             return Ok(());
         }
-        left -= 1;
     }
     Ok(())
 }

@@ -1,8 +1,7 @@
 // Bytes into a lent slice, at a place that moves on; what does not fit is left out.
-use claim::Claimed;
 use fill::paint::Counts;
 use picture::PixelColor;
-use refusals::number_of;
+use refusals::Refusal;
 use regions::{ColoredRegion, Region};
 use table::{Entry, Table};
 
@@ -48,11 +47,11 @@ fn region(out: &mut [u8], at: usize, r: Region) -> usize {
 }
 
 // What a lookup answered: 0 and a claimed piece's colour; 1 with an unclaimed one's number, seed and count; or 2 and a refusal.
-pub fn looked(out: &mut [u8], at: usize, found: ColoredRegion) -> usize {
+pub fn looked(out: &mut [u8], at: usize, found: Result<ColoredRegion, Refusal>) -> usize {
     match found {
-        ColoredRegion::Claimed(c) => answer(out, at, 0, color(c), 0, 0),
-        ColoredRegion::Unclaimed(r) => region(out, at, r),
-        ColoredRegion::Refused(why) => answer(out, at, 2, number_of(why) as usize, 0, 0),
+        Ok(ColoredRegion::Claimed(c)) => answer(out, at, 0, color(c), 0, 0),
+        Ok(ColoredRegion::Unclaimed(r)) => region(out, at, r),
+        Err(why) => answer(out, at, 2, u8::from(why) as usize, 0, 0),
     }
 }
 
@@ -61,10 +60,10 @@ fn counts(out: &mut [u8], at: usize, c: Counts) -> usize {
 }
 
 // What a claim answered: 3 with its counts, or 2 and a refusal.
-pub fn claimed(out: &mut [u8], at: usize, found: Claimed) -> usize {
+pub fn claimed(out: &mut [u8], at: usize, found: Result<Counts, Refusal>) -> usize {
     match found {
-        Claimed::Done(c) => counts(out, at, c),
-        Claimed::Refused(why) => answer(out, at, 2, number_of(why) as usize, 0, 0),
+        Ok(c) => counts(out, at, c),
+        Err(why) => answer(out, at, 2, u8::from(why) as usize, 0, 0),
     }
 }
 
@@ -81,13 +80,9 @@ pub fn table(out: &mut [u8], at: usize, t: Table) -> usize {
     if n > 251 {
         return next;
     }
-    let mut k: usize = 0;
-    while k < n {
-        let age = t.age[k];
-        let e = t.entries[k];
-        let aged = byte(out, next, age);
-        next = entry(out, aged, e);
-        k += 1;
+    for k in 0..n {
+        let aged = byte(out, next, t.age[k]);
+        next = entry(out, aged, t.entries[k]);
     }
     next
 }
@@ -95,11 +90,8 @@ pub fn table(out: &mut [u8], at: usize, t: Table) -> usize {
 // The picture.
 pub fn picture(out: &mut [u8], at: usize, pic: &[u8]) -> usize {
     let mut next = at;
-    let mut i = 0;
-    while i < pic.len() {
-        let value = pic[i];
+    for &value in pic {
         next = byte(out, next, value);
-        i += 1;
     }
     next
 }

@@ -1,12 +1,11 @@
 -- Texts put one after the other are one text. Assumes nothing.
-use Prim.Native.Nat.{ℕ, suc, ◌+◌, ◌≤◌, ◌<◌}
+use Prim.Native.Nat.{ℕ, suc, ◌+◌, ◌≤◌}
 use native.Mathlib.Nat.{add-zero}
 use native.Mathlib.Omega.{arith}
-use native.Mathlib.Numerals.{add-one}
 use mathlib.Core.Path.{◌≡◌, refl, sym, ap, ◌∙◌}
-use mathlib.Core.List.{List, [], ◌∷◌, ◌++◌}
-use lib.ListN.{length, get_or, take, set, length-append}
-use lib.Seq.{sets, take-suc, length-take-le}
+use mathlib.Core.List.{List, [], ◌∷◌, ◌++◌, append_assoc}
+use lib.ListN.{length, take, drop, set, length-append}
+use lib.Seq.{sets, sets-eq}
 use Rattle.report.specs.Puts.{Puts}
 
 sets_parts : (s t b : List ℕ) (at : ℕ) → sets b at (s ++ t) ≡ sets (sets b at s) (at + length s) t
@@ -30,10 +29,6 @@ puts_within {l} k {s} {b} {a} {at} {q} h P = record { stored = P.stored; place =
 pub puts_exactly : {l : ℕ} {s b a : List ℕ} {at q : ℕ} → Puts l s b at a q → Puts (length s) s b at a q
 puts_exactly {l} {s} {b} {a} {at} {q} P = record { stored = P.stored; place = P.place; short = omega (arith, P.place) }
 
--- one byte more of a text
-pub stores_next : (text b : List ℕ) (at i : ℕ) → i < length text → set (sets b at (take i text)) (at + i) (get_or text i 0) ≡ sets b at (take (i + 1) text)
-stores_next text b at i on =
-    let one = get_or text i 0 in
-    let more : take (i + 1) text ≡ take i text ++ (one ∷ []) = rw (add-one i) (take-suc text i 0 on) in
-    let long : length (take i text) ≡ i = length-take-le i text (omega arith) in
-    sym (ap (sets b at) more ∙ sets_parts (take i text) (one ∷ []) b at ∙ ap (λ (k : ℕ). set (sets b at (take i text)) (at + k) one) long)
+-- a text put over as many bytes is stored byte by byte
+pub stores_text : (text b : List ℕ) (at : ℕ) → at + length text ≤ length b → take at b ++ (text ++ drop (at + length text) b) ≡ sets b at text
+stores_text text b at room = sym (sets-eq text b at room ∙ append_assoc (take at b) text (drop (at + length text) b))

@@ -1,4 +1,5 @@
 // The lines that `locate` prints, made in a buffer that the caller lends (document 01, "Program `locate`"). Each function answers the place after what it put, and asks room for the longest line that it can put.
+// Bytes are put one by one: `write!` tells the bytes that it wrote only of a `String`, and these crates have no heap.
 #![tactic(auto)]
 
 ghost use Rattle.std.specs.Prelude.{◌+◌, ◌≤◌, length};

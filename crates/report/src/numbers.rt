@@ -1,11 +1,10 @@
 // Numbers put as text.
-ghost use Rattle.std.specs.Prelude.{◌≡◌, ◌+◌, ◌≤◌, ◌<◌, nat_abs, length};
-ghost use Rattle.std.specs.Float.{binary64};
-ghost use Rattle.std.specs.Float.Ieee.{to_bits};
+ghost use Rattle.std.specs.Prelude.{◌≡◌, ◌+◌, ◌≤◌, ◌<◌, length};
 ghost use Rattle.report.specs.Numbers.{decimal, signed, hex_digit, hex, float};
 ghost use Rattle.report.specs.Puts.{Puts};
 
 use crate::put;
+use std::num::f64_to_bits_with_nan;
 
 // The decimal digits of a number, the highest first.
 pub fn decimal(n: u64, out: &mut [u8], at: usize) -> usize
@@ -20,27 +19,17 @@ pub fn decimal(n: u64, out: &mut [u8], at: usize) -> usize
     put::byte(last, out, after)
 }
 
-// How far a number is from 0.
-fn magnitude(z: i32) -> u64
-    ensures { result ≡ nat_abs z }
-{
-    let wide = z as i64;
-    if wide < 0 {
-        return (0 - wide) as u64;
-    }
-    wide as u64
-}
-
 // A number with its sign, where it is negative.
 pub fn signed(z: i32, out: &mut [u8], at: usize) -> usize
     requires { at + 11 ≤ length out.old }
     ensures { Puts 11 (signed z) out.old at out.new result }
 {
+    let magnitude = z.unsigned_abs() as u64;
     if z < 0 {
         let after = put::byte(b'-', out, at);
-        return decimal(magnitude(z), out, after);
+        return decimal(magnitude, out, after);
     }
-    decimal(magnitude(z), out, at)
+    decimal(magnitude, out, at)
 }
 
 // The digit of a number below 16.
@@ -67,20 +56,10 @@ fn hex(places: usize, n: u64, out: &mut [u8], at: usize) -> usize
     put::byte(last, out, after)
 }
 
-// The bits of x. A NaN's are those of the quiet one that has nothing else set.
-fn bits_of(x: f64) -> u64
-    ensures { result ≡ to_bits binary64 x }
-{
-    if x != x {
-        return 0x7ff8_0000_0000_0000;
-    }
-    f64::to_bits(x)
-}
-
-// The 16 hex digits of the bits of x.
+// The 16 hex digits of the bits of x; a NaN's are those of the quiet one that has nothing else set.
 pub fn float(x: f64, out: &mut [u8], at: usize) -> usize
     requires { at + 16 ≤ length out.old }
     ensures { Puts 16 (float x) out.old at out.new result }
 {
-    hex(16, bits_of(x), out, at)
+    hex(16, f64_to_bits_with_nan(x), out, at)
 }

@@ -16,10 +16,7 @@ pub fn word(text: &[u8], out: &mut [u8], at: usize) -> usize
     requires { at + length text.now ≤ length out.old }
     ensures { Puts (length text.now) text.now out.old at out.new result }
 {
-    let mut i = 0;
-    while i < text.len() {
-        out[at + i] = text[i];
-        i += 1;
-    }
-    at + i
+    let end = at + text.len();
+    out[at..end].copy_from_slice(text);
+    end
 }

@@ -18,9 +18,7 @@ fn bare(byte: u8) -> u8
 pub fn blacken(pic: &mut [u8])
     ensures { pic.new ≡ map unpainted pic.old }
 {
-    let mut i = 0;
-    while i < pic.len() {
-        pic[i] = bare(pic[i]);
-        i += 1;
+    for b in pic.iter_mut() {
+        *b = bare(*b);
     }
 }

@@ -1,4 +1,5 @@
 -- What each test of `nearest` says of a float, by cases on it. Assumes nothing.
+use Rattle.std.specs.Prelude.{Some, None}
 use Prim.Native.Nat.{ℕ, suc, ◌+◌, ◌*◌, ◌^◌, ◌≤◌, ◌<◌}
 use native.Mathlib.Nat.{mul-pos, div-lt_iff_lt-mul, le-div_iff_mul-le}
 use native.Mathlib.Omega.{arith}
@@ -11,7 +12,6 @@ use lib.Ieee.Compare.{differs_from_itself}
 use lib.Ieee.Fits.{down_pos}
 use borrow.Author.Tests.{ltb-true, ltb-false, lt-ltb, le-ltb, le-leb, lt-leb}
 use Rattle.rounding.specs.Nearest.{half_up, size_of, nearest_of, held}
-use Rattle.rounding.specs.declared.Whole.TheVariants.{At, Off}
 
 abbrev pub nought : Float
 nought = fin false 0 (pos 0)
@@ -34,7 +34,7 @@ from_n a b n p h = (le-div_iff_mul-le (mul-pos (lit< tt) p)).1 h
 pub record Up (x : Float) : Type 0 where
   pub low : T (lt nought x)
   pub high : T (lt x bottom)
-  pub at : nearest_of x ≡ At (pos (size_of x))
+  pub at : nearest_of x ≡ Some (pos (size_of x))
   pub small : size_of x < 2 ^ 31
 
 pub up_at : (x : Float) → lt nought x ≡ true → lt x top ≡ true → Up x
@@ -54,7 +54,7 @@ up_at (fin false m e) p q =
       small = s;
     }
 
-pub up_off : (x : Float) → lt nought x ≡ true → lt x top ≡ false → nearest_of x ≡ Off
+pub up_off : (x : Float) → lt nought x ≡ true → lt x top ≡ false → nearest_of x ≡ None
 unfolding lt nearest_of held
 up_off nan p q = refl
 up_off (inf s) p q = refl
@@ -67,7 +67,7 @@ up_off (fin false m e) p q =
 pub record Down (x : Float) : Type 0 where
   pub low : T (lt nought (neg x))
   pub high : T (lt (neg x) bottom)
-  pub at : nearest_of x ≡ At (neg_ℤ (pos (size_of (neg x))))
+  pub at : nearest_of x ≡ Some (neg_ℤ (pos (size_of (neg x))))
   pub small : size_of (neg x) ≤ 2 ^ 31
 
 pub down_at_lem : (x : Float) → lt x nought ≡ true → lt (neg bottom) x ≡ true → Down x
@@ -92,7 +92,7 @@ down_at_lem (fin true m e) p q =
       small = s';
     }
 
-pub down_off : (x : Float) → lt x nought ≡ true → lt (neg bottom) x ≡ false → nearest_of x ≡ Off
+pub down_off : (x : Float) → lt x nought ≡ true → lt (neg bottom) x ≡ false → nearest_of x ≡ None
 unfolding lt nearest_of held neg
 down_off nan p q = refl
 down_off (inf s) p q = refl
@@ -106,11 +106,11 @@ down_off (fin true m e) p q =
     rw (lt-leb (half_up (m * up e) (down e)) (2 ^ 31) s)
 
 -- neither above nor below 0: it is no number, or 0
-pub rest_nan : (x : Float) → ne x x ≡ true → nearest_of x ≡ Off
+pub rest_nan : (x : Float) → ne x x ≡ true → nearest_of x ≡ None
 unfolding nearest_of
 rest_nan x h = rw (differs_from_itself x (subst T (sym h) tt))
 
-pub rest_zero : (x : Float) → lt nought x ≡ false → lt x nought ≡ false → ne x x ≡ false → nearest_of x ≡ At (pos 0)
+pub rest_zero : (x : Float) → lt nought x ≡ false → lt x nought ≡ false → ne x x ≡ false → nearest_of x ≡ Some (pos 0)
 unfolding lt nearest_of held ne eq
 rest_zero nan p q r = absurd (true≢false r)
 rest_zero (inf true) p q r = absurd (true≢false q)

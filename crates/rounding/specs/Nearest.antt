@@ -1,9 +1,7 @@
 -- The whole number nearest to a float, a half away from zero (document 01, "Points"). Arithmetic decides it, on the exact fraction that the float stands for. Assumes nothing.
-use Rattle.std.specs.Prelude.{ℕ, ◌+◌, ◌*◌, ◌/◌, ◌^◌, ◌≤◌, ◌<◌, ◌≡◌, Bool, true, false, cond, ltb, leb, ℤ, pos, neg_ℤ, Float}
+use Rattle.std.specs.Prelude.{ℕ, ◌+◌, ◌*◌, ◌/◌, ◌^◌, ◌≤◌, ◌<◌, ◌≡◌, Bool, true, false, cond, ltb, leb, ℤ, pos, neg_ℤ, Float, Option, Some, None}
 use Rattle.std.specs.Float.{nan, inf, fin}
 use Rattle.std.specs.Float.Ieee.{up, down}
-use Rattle.rounding.specs.declared.Whole.{Whole}
-use Rattle.rounding.specs.declared.Whole.TheVariants.{At, Off}
 
 -- n is the whole number nearest to the fraction a / b, the larger one at a half: at most a half above it, and less than a half below
 pub record NearestTo (a b n : ℕ) : Type 0 where
@@ -26,14 +24,14 @@ unfoldable pub half_up : ℕ → ℕ → ℕ
 half_up a b = (2 * a + b) / (2 * b)
 
 -- n with a sign, where an `i32` holds it
-unfoldable pub held : Bool → ℕ → Whole
-held false n = cond (ltb n (2 ^ 31)) (At (signed_by false n)) Off
-held true n = cond (leb n (2 ^ 31)) (At (signed_by true n)) Off
+unfoldable pub held : Bool → ℕ → Option ℤ
+held false n = cond (ltb n (2 ^ 31)) (Some (signed_by false n)) None
+held true n = cond (leb n (2 ^ 31)) (Some (signed_by true n)) None
 
 -- the number nearest to x, where an `i32` holds it
-unfoldable pub nearest_of : Float → Whole
-nearest_of nan = Off
-nearest_of (inf s) = Off
+unfoldable pub nearest_of : Float → Option ℤ
+nearest_of nan = None
+nearest_of (inf s) = None
 nearest_of (fin s m e) = held s (half_up (m * up e) (down e))
 
 -- the number nearest to x's size

@@ -6,13 +6,6 @@ ghost use Rattle.std.specs.Float.Ieee.{lt};
 ghost use Rattle.std.specs.Float.{fin};
 ghost use Rattle.rounding.specs.Nearest.{nearest_of, size_of};
 
-// A float, rounded: to a whole number, or off the range of `i32` (NaN included).
-#[derive(Clone, Copy)]
-pub enum Whole {
-    At(i32),
-    Off,
-}
-
 // The whole number nearest to x, a half upwards, for an x above 0 and below 2^31 + 1/2. From 2^52 on floats are whole numbers: adding that rounds x, a half to the even number, which is then one too low or none.
 fn half_up(x: f64) -> u64
     requires fact_1 { T (lt (fin false 0 (pos 0)) x) }
@@ -44,23 +37,23 @@ fn minus(n: u64) -> i32
 }
 
 // The whole number nearest to x, a half away from zero, where an `i32` holds it.
-pub fn nearest(x: f64) -> Whole
+pub fn nearest(x: f64) -> Option<i32>
     ensures { result ≡ nearest_of x }
 {
     if x > 0.0 {
         if x < 2147483647.5 {
-            return Whole::At(plus(half_up(x)));
+            return Some(plus(half_up(x)));
         }
-        return Whole::Off;
+        return None;
     }
     if x < 0.0 {
         if x > -2147483648.5 {
-            return Whole::At(minus(half_up(-x)));
+            return Some(minus(half_up(-x)));
         }
-        return Whole::Off;
+        return None;
     }
     if x != x {
-        return Whole::Off;
+        return None;
     }
-    Whole::At(0)
+    Some(0)
 }

@@ -1,39 +1,33 @@
--- The shares 1, 1, 3, 1, 1, and how the tests of single runs make the test of all. Assumes nothing.
-use Prim.Native.Nat.{ℕ, zero, suc, ◌+◌, ◌*◌, ◌≤◌, ◌<◌}
+-- The shares 1, 1, 3, 1, 1: the tests of single runs, the middle one first, make the test of all. Assumes nothing.
+use Prim.Native.Nat.{ℕ, ◌*◌}
 use native.Mathlib.Omega.{arith}
-use native.Mathlib.Numerals.{add-one}
-use mathlib.Core.Path.{◌≡◌, refl, ap, sym, ◌∙◌}
-use mathlib.Core.Bool.{Bool, true, false, ◌&&◌, true≢false}
+use mathlib.Core.Path.{◌≡◌}
+use mathlib.Core.Bool.{Bool, true, false, ◌&&◌}
 use mathlib.Core.List.{List}
 use lib.ListN.{get_or}
-use Rattle.runs.specs.Mark.{shares, near, error, all_near}
+use Rattle.runs.specs.Mark.{average, near, error, all_near, mark_like}
 
--- a share of the average is from one to three times as long
-pub share_of : (i avg : ℕ) → i < 5 → (avg ≤ get_or shares i 0 * avg) × (get_or shares i 0 * avg ≤ 3 * avg)
-share_of zero avg h = (omega arith, omega arith)
-share_of (suc zero) avg h = (omega arith, omega arith)
-share_of (suc (suc zero)) avg h = (omega arith, omega arith)
-share_of (suc (suc (suc zero))) avg h = (omega arith, omega arith)
-share_of (suc (suc (suc (suc zero)))) avg h = (omega arith, omega arith)
-share_of (suc (suc (suc (suc (suc i))))) avg h = absurd (omega arith)
+-- a test that follows one that holds
+pub then_tested : {a b v : Bool} → a ≡ true → v ≡ b → v ≡ a && b
+then_tested on is = rw (on, is)
 
-module _ (runs : List ℕ) (avg : ℕ) where
-  -- run k is near its share
-  abbrev pub near_at : ℕ → Bool
-  near_at k = near (get_or runs k 0) (get_or shares k 0 * avg) (error avg)
+-- and one that does not follow
+pub else_untested : {a v : Bool} (b : Bool) → a ≡ false → v ≡ a → v ≡ a && b
+else_untested b off is = rw (is, off)
 
-  pub one_more : (i : ℕ) → near_at i ≡ true → all_near i runs avg ≡ true → all_near (i + 1) runs avg ≡ true
-  unfolding all_near
-  one_more i a b = rw (add-one i, a) b
+-- five tests, the middle one first
+middle_first : (a b c d e : Bool) → (c && a && b && d && e) ≡ (e && (d && (c && (b && (a && true)))))
+middle_first a b c d e = grind arith
 
-  -- one run that is not near decides
-  pub one_off : (i n : ℕ) → near_at i ≡ false → i < n → all_near n runs avg ≡ false
-  unfolding all_near
-  one_off i zero a h = absurd (omega arith)
-  one_off i (suc n) a h = go (near_at n) refl (one_off i n a)
-    where
-      go : (t : Bool) → near_at n ≡ t → (i < n → all_near n runs avg ≡ false) → near_at n && all_near n runs avg ≡ false
-      go false e before = rw e
-      go true e before =
-          let other : i ≡ n → ⊥ = λ q. true≢false (sym e ∙ ap near_at (sym q) ∙ a) in
-          rw e (before (omega arith))
+module _ (runs : List ℕ) {avg : ℕ} (is : avg ≡ average runs) where
+  pub mark_tests : {v0 v1 v2 v3 : Bool}
+      → v0 ≡ near (get_or runs 2 0) (3 * avg) (error avg)
+      → v1 ≡ (v0 && near (get_or runs 0 0) avg (error avg))
+      → v2 ≡ (v1 && near (get_or runs 1 0) avg (error avg))
+      → v3 ≡ (v2 && near (get_or runs 3 0) avg (error avg))
+      → (v3 && near (get_or runs 4 0) avg (error avg)) ≡ mark_like runs
+  unfolding mark_like all_near
+  mark_tests e0 e1 e2 e3 =
+      let one : 1 * avg ≡ avg = omega arith in
+      let plain = λ (k : ℕ). near (get_or runs k 0) avg (error avg) in
+      rw (← is, one, e3, e2, e1, e0) (middle_first (plain 0) (plain 1) (near (get_or runs 2 0) (3 * avg) (error avg)) (plain 3) (plain 4))

@@ -4,9 +4,6 @@
 ghost use Rattle.std.specs.Prelude.{◌≡◌, ◌≤◌, ◌*◌};
 ghost use Rattle.runs.specs.Mark.{Short, average, near, mark_like};
 
-// How many times the average each run of a mark is.
-const CHECK: [usize; 5] = [1, 1, 3, 1, 1];
-
 fn average_of(runs: [usize; 5]) -> usize
     requires { Short runs }
     ensures { (result ≡ average runs) × (result ≤ 800) }
@@ -19,10 +16,7 @@ fn is_near(run: usize, should: usize, err: usize) -> bool
     requires { (err ≤ should) × (should ≤ 2400) }
     ensures { result ≡ near run should err }
 {
-    if run < should - err {
-        return false;
-    }
-    run <= should + err
+    should - err <= run && run <= should + err
 }
 
 // Whether the runs are near 1, 1, 3, 1, 1 times their average. The middle one is tested first: it is the one that fails most often.
@@ -32,15 +26,9 @@ pub fn is_mark_like(runs: [usize; 5]) -> bool
 {
     let avg = average_of(runs);
     let err = avg * 3 / 4;
-    if !is_near(runs[2], 3 * avg, err) {
-        return false;
-    }
-    let mut i: usize = 0;
-    while i < 5 {
-        if !is_near(runs[i], CHECK[i] * avg, err) {
-            return false;
-        }
-        i += 1;
-    }
-    true
+    is_near(runs[2], 3 * avg, err)
+        && is_near(runs[0], avg, err)
+        && is_near(runs[1], avg, err)
+        && is_near(runs[3], avg, err)
+        && is_near(runs[4], avg, err)
 }

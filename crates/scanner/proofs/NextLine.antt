@@ -1,8 +1,9 @@
 -- The next line that has a cut: line by line, between which lines it lies, and that paint doesn't matter to it. Assumes nothing.
+use Rattle.std.specs.Prelude.{Option, is_some}
 use Prim.Native.Nat.{ℕ, zero, suc, ◌+◌, ◌-◌, ◌*◌, ◌≤◌, ◌<◌}
 use native.Mathlib.Omega.{arith}
 use native.Mathlib.Numerals.{add-one}
-use mathlib.Core.Path.{◌≡◌, refl, subst}
+use mathlib.Core.Path.{◌≡◌, refl}
 use mathlib.Core.Bool.{true, false}
 use mathlib.Core.List.{List, [], ◌∷◌}
 use Rattle.scanner.specs.Edges.{dark}
@@ -11,26 +12,15 @@ use Rattle.scanner.specs.Scan.{begun, Comes, to_cut, to_end}
 use Rattle.scanner.specs.Lines.{some, next_line}
 use Rattle.scanner.specs.declared.LinePosition.{LinePosition}
 use Rattle.scanner.specs.declared.LineScanner.{LineScanner}
-use Rattle.scanner.specs.declared.Advanced.{Advanced}
-use Rattle.scanner.specs.declared.Advanced.TheVariants.{Cut, Done}
 use Rattle.scanner.proofs.Ahead.{begins}
 use Rattle.scanner.proofs.Alike.{line_alike}
 
 -- what a scan from a line's beginning comes to says whether the line has a cut
 module _ {p : List ℕ} {base w : ℕ} {scan : LineScanner} (begin : scan ≡ begun) where
-  pub cut_some : {a : Advanced} {at : LinePosition} {next : LineScanner} → Comes p base w scan a → a ≡ Cut at next → true ≡ some (line_cuts p base w)
+  pub comes_some : {a : Option (LinePosition × LineScanner)} → Comes p base w scan a → is_some a ≡ some (line_cuts p base w)
   unfolding some
-  cut_some {at = at} {next = next} C e = go (subst (Comes p base w scan) e C)
-    where
-      go : Comes p base w scan (Cut at next) → true ≡ some (line_cuts p base w)
-      go (to_cut _ _ is on) = let all = begins p base w in rw (← all, ← begin, is)
-
-  pub done_none : {a : Advanced} → Comes p base w scan a → a ≡ Done → false ≡ some (line_cuts p base w)
-  unfolding some
-  done_none C e = go (subst (Comes p base w scan) e C)
-    where
-      go : Comes p base w scan Done → false ≡ some (line_cuts p base w)
-      go (to_end is) = let all = begins p base w in rw (← all, ← begin, is)
+  comes_some (to_cut _ _ is on) = let all = begins p base w in rw (← all, ← begin, is)
+  comes_some (to_end is) = let all = begins p base w in rw (← all, ← begin, is)
 
 pub none_on : (cuts : List LinePosition) → some cuts ≡ false → cuts ≡ []
 unfolding some

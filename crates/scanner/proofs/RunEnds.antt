@@ -2,7 +2,7 @@
 use Prim.Native.Nat.{ℕ, suc, ◌+◌, ◌-◌, ◌≤◌, ◌<◌}
 use native.Mathlib.Omega.{arith}
 use native.Mathlib.Numerals.{add-one}
-use mathlib.Core.Path.{◌≡◌, refl}
+use mathlib.Core.Path.{◌≡◌, refl, sym}
 use mathlib.Core.Bool.{Bool, true, false, not, beq}
 use mathlib.Core.List.{List}
 use lib.ListN.{get_or}
@@ -22,6 +22,20 @@ like false = refl
 pub unlike : (b : Bool) → beq (not b) b ≡ false
 unlike true = refl
 unlike false = refl
+
+-- a pixel of the run's shade, as the code compares
+pub on_shade : (d shade : Bool) → not (beq d shade) ≡ false → d ≡ shade
+on_shade true true e = refl
+on_shade true false e = e
+on_shade false true e = sym e
+on_shade false false e = refl
+
+-- and one of the other shade
+pub off_shade : (d shade : Bool) → not (beq d shade) ≡ true → d ≡ not shade
+off_shade true true e = sym e
+off_shade true false e = refl
+off_shade false true e = refl
+off_shade false false e = e
 
 module _ (shade : Bool) (p : List ℕ) (base w x : ℕ) where
   pub goes_on : x < w → dark p base x ≡ shade → run_end shade p base (w - x) x ≡ run_end shade p base (w - (x + 1)) (x + 1)

@@ -1,11 +1,9 @@
 -- A scan of a line, from cut to cut. Assumes nothing.
-use Rattle.std.specs.Prelude.{ℕ, ◌+◌, ◌-◌, ◌≤◌, ◌<◌, ◌≡◌, List, [], ◌∷◌, ◌++◌, drop}
+use Rattle.std.specs.Prelude.{ℕ, ◌+◌, ◌-◌, ◌≤◌, ◌<◌, ◌≡◌, List, [], ◌∷◌, ◌++◌, drop, Option, Some, None}
 use Rattle.scanner.specs.Edges.{edges_after}
 use Rattle.scanner.specs.Cuts.{cuts}
 use Rattle.scanner.specs.declared.LinePosition.{LinePosition}
 use Rattle.scanner.specs.declared.LineScanner.{LineScanner}
-use Rattle.scanner.specs.declared.Advanced.{Advanced}
-use Rattle.scanner.specs.declared.Advanced.TheVariants.{Cut, Done}
 
 -- a scan begins at the first column, which counts as an edge
 unfoldable pub begun : LineScanner
@@ -34,6 +32,6 @@ pub record OnLine (w : ℕ) (s : LineScanner) : Type 0 where
   pub in4 : s.e4 ≤ w
 
 -- what a scan comes to: the first cut that is ahead, with a scan that has the others ahead; or the end, where there is none
-pub data Comes (p : List ℕ) (base w : ℕ) (s : LineScanner) : Advanced → Type 0 where
-  to_cut : (at : LinePosition) (t : LineScanner) → ahead p base w s ≡ at ∷ ahead p base w t → OnLine w t → Comes p base w s (Cut at t)
-  to_end : ahead p base w s ≡ [] → Comes p base w s Done
+pub data Comes (p : List ℕ) (base w : ℕ) (s : LineScanner) : Option (LinePosition × LineScanner) → Type 0 where
+  to_cut : (at : LinePosition) (t : LineScanner) → ahead p base w s ≡ at ∷ ahead p base w t → OnLine w t → Comes p base w s (Some (at, t))
+  to_end : ahead p base w s ≡ [] → Comes p base w s None

@@ -1,7 +1,7 @@
 // The line scanner: the cuts of a line that may go through a mark (detect.rs, `LineScanner`). It sees white and not white alone.
 #![tactic(auto)]
 
-ghost use Rattle.std.specs.Prelude.{◌≡◌, true, false, ◌&&◌, leb, ◌+◌, ◌-◌, ◌<◌, ◌≤◌, length};
+ghost use Rattle.std.specs.Prelude.{◌≡◌, ◌&&◌, leb, ◌+◌, ◌-◌, ◌<◌, ◌≤◌, length};
 ghost use Rattle.refusals.specs.Limits.{longest_side};
 ghost use Rattle.scanner.specs.Edges.{dark, run_end};
 ghost use Rattle.scanner.specs.Cuts.{is_cut};
@@ -32,41 +32,17 @@ pub struct LineScanner {
     pub met: usize,
 }
 
-// What a scan comes to: a cut, with the scan from there on, or the end of the line.
-#[derive(Clone, Copy)]
-pub enum Advanced {
-    Cut(LinePosition, LineScanner),
-    Done,
-}
-
-// Where a light run ends that reaches to column x at least, on the line that starts at base.
-fn light_end(pic: &[u8], base: usize, width: usize, x: usize) -> usize
+// Where a dark run, or a light one, ends that reaches to column x at least, on the line that starts at base.
+fn end_of(pic: &[u8], base: usize, width: usize, x: usize, is_dark: bool) -> usize
     requires { (x ≤ width) × (base + width ≤ length pic.now) }
-    ensures { result ≡ run_end false pic.now base (width - x) x }
+    ensures { result ≡ run_end is_dark pic.now base (width - x) x }
 {
-    let mut end = x;
-    while end < width {
-        if pic[base + end] != 0 {
+    for end in x..width {
+        if (pic[base + end] != 0) != is_dark {
             return end;
         }
-        end += 1;
     }
-    end
-}
-
-// Where a dark one ends.
-fn dark_end(pic: &[u8], base: usize, width: usize, x: usize) -> usize
-    requires { (x ≤ width) × (base + width ≤ length pic.now) }
-    ensures { result ≡ run_end true pic.now base (width - x) x }
-{
-    let mut end = x;
-    while end < width {
-        if pic[base + end] == 0 {
-            return end;
-        }
-        end += 1;
-    }
-    end
+    width
 }
 
 // Where the run ends that starts at column x.
@@ -75,9 +51,9 @@ fn run_end(pic: &[u8], base: usize, width: usize, x: usize) -> usize
     ensures { result ≡ run_end (dark pic.now base x) pic.now base (width - (x + 1)) (x + 1) }
 {
     if pic[base + x] == 0 {
-        return light_end(pic, base, width, x + 1);
+        return end_of(pic, base, width, x + 1, false);
     }
-    dark_end(pic, base, width, x + 1)
+    end_of(pic, base, width, x + 1, true)
 }
 
 impl LineScanner {
@@ -130,26 +106,30 @@ impl LineScanner {
     }
 
     // Goes on to the next cut.
-    pub fn advance(self, pic: &[u8], base: usize, width: usize) -> Advanced
+    pub fn advance(
+        self,
+        pic: &[u8],
+        base: usize,
+        width: usize,
+    ) -> Option<(LinePosition, LineScanner)>
         requires { OnLine width self × (width ≤ longest_side) × (base + width ≤ length pic.now) }
         ensures { Comes pic.now base width self result }
     {
         let mut s = self;
+        // A loop with no counter: each turn goes on from the last edge met to the next one, however far that is.
         while s.e4 < width {
             let edge = run_end(pic, base, width, s.e4);
             let next = s.pass(edge);
             if s.is_cut(pic, base, width, edge) {
-                return Advanced::Cut(
-                    LinePosition {
-                        left: s.e0,
-                        stone: s.e2,
-                        right: s.e4,
-                    },
-                    next,
-                );
+                let at = LinePosition {
+                    left: s.e0,
+                    stone: s.e2,
+                    right: s.e4,
+                };
+                return Some((at, next));
             }
             s = next;
         }
-        Advanced::Done
+        None
     }
 }

@@ -2,18 +2,18 @@
 use Prim.Native.Nat.{ℕ, zero, suc, ◌+◌, ◌-◌, ◌≤◌, ◌<◌, zero-le}
 use native.Mathlib.Omega.{arith}
 use borrow.Author.Tests.{le-ltb, ltb-true, ltb-false, leb-true, leb-false}
-use mathlib.Core.Path.{◌≡◌, refl, ap, ◌∙◌}
+use mathlib.Core.Path.{◌≡◌, refl, sym, ap, ◌∙◌}
 use mathlib.Core.Bool.{Bool, true, false, cond}
 use mathlib.Core.Logic.{◌⊎◌, ⊎_elim, inl, inr}
 use mathlib.Core.List.{[], ◌∷◌}
 use lib.Dec.{leb, ltb, lit≤}
 use lib.IntN.{ℤ, pos, nat_abs, ◌+ℤ◌, ◌-ℤ◌}
+use Rattle.std.specs.Prelude.{Option, Some, None}
 use Rattle.refusals.specs.Limits.{farthest}
 use Rattle.points.specs.declared.Point.{Point}
 use Rattle.points.specs.Range.{Near}
 use Rattle.sizes.proofs.Size.{size_add, size_sub}
 use Rattle.scans.specs.declared.BresenhamScan.{BresenhamScan}
-use Rattle.scans.specs.declared.Stepped.TheVariants.{Seen, Done}
 use Rattle.scans.specs.Scan.{start_of, scan_of, placed_by, moved_by, next_of, here, step_of, Good}
 use Rattle.scans.specs.Points.{after, points_of, points}
 use Rattle.scans.proofs.Direction.{way_low}
@@ -72,7 +72,7 @@ module _ (s : BresenhamScan) (g : Good s) (more : s.i ≤ s.d) where
       go true = placed_good s.domstep off left g.dom_low p h
       go false = placed_good off s.domstep left p g.dom_low h
 
-  next_good : Good (next_of s)
+  pub next_good : Good (next_of s)
   unfolding next_of
   next_good = go (leb s.d (s.a + s.n)) (leb-false s.d (s.a + s.n))
     where
@@ -140,11 +140,11 @@ pub record Next (s : BresenhamScan) (p : Point) (t : BresenhamScan) : Type 0 whe
   pub d_same : t.d ≡ s.d
   pub i_next : t.i ≡ s.i + 1
 
-pub step_is : (s : BresenhamScan) → s.i ≤ s.d → step_of s ≡ Seen (here s) (next_of s)
+pub step_is : (s : BresenhamScan) → s.i ≤ s.d → step_of s ≡ (Some (here s), next_of s)
 unfolding step_of
 step_is s h = rw (le-ltb s.d s.i h)
 
-pub step_seen : (s : BresenhamScan) (p : Point) (t : BresenhamScan) → step_of s ≡ Seen p t → Next s p t
+pub step_seen : (s : BresenhamScan) (p : Point) (t : BresenhamScan) → step_of s ≡ (Some p, t) → Next s p t
 unfolding step_of
 step_seen s p t h = go (ltb s.d s.i) (ltb-false s.d s.i) h
   where
@@ -158,32 +158,39 @@ step_seen s p t h = go (ltb s.d s.i) (ltb-false s.d s.i) h
           i_next = ap (λ (u : BresenhamScan). u.i) et ∙ next_i s;
         }
 
-    go : (b : Bool) → (b ≡ false → s.i ≤ s.d) → cond b Done (Seen (here s) (next_of s)) ≡ Seen p t → Next s p t
-    go true f h = let z : ◌≡◌ {A = ℕ} 0 1 = cc in let y : ⊥ = omega arith in absurd y
-    go false f h = from_next (f refl) (cc) (cc)
+    go : (b : Bool) → (b ≡ false → s.i ≤ s.d) → ◌≡◌ {A = Option Point × BresenhamScan} (cond b (None, s) (Some (here s), next_of s)) (Some p, t) → Next s p t
+    go true f h =
+        let none : ◌≡◌ {A = Option Point} None (Some p) = ap (λ (u : Option Point × BresenhamScan). u.0) h in
+        let z : ◌≡◌ {A = ℕ} 0 1 = cc in
+        let y : ⊥ = omega arith in absurd y
+    go false f h =
+        let some : Some (here s) ≡ Some p = ap (λ (u : Option Point × BresenhamScan). u.0) h in
+        from_next (f refl) (cc) (sym (ap (λ (u : Option Point × BresenhamScan). u.1) h))
 
-pub step_done : (s : BresenhamScan) → step_of s ≡ Done → s.d < s.i
+pub step_done : (s t : BresenhamScan) → step_of s ≡ (None, t) → s.d < s.i
 unfolding step_of
-step_done s h = go (ltb s.d s.i) (ltb-true s.d s.i) h
+step_done s t h = go (ltb s.d s.i) (ltb-true s.d s.i) h
   where
-    go : (b : Bool) → (b ≡ true → s.d < s.i) → cond b Done (Seen (here s) (next_of s)) ≡ Done → s.d < s.i
+    go : (b : Bool) → (b ≡ true → s.d < s.i) → ◌≡◌ {A = Option Point × BresenhamScan} (cond b (None, s) (Some (here s), next_of s)) (None, t) → s.d < s.i
     go true f h = f refl
-    go false f h = let z : ◌≡◌ {A = ℕ} 0 1 = cc in omega arith
+    go false f h =
+        let none : ◌≡◌ {A = Option Point} (Some (here s)) None = ap (λ (u : Option Point × BresenhamScan). u.0) h in
+        let z : ◌≡◌ {A = ℕ} 0 1 = cc in omega arith
 
-pub step_good : (s : BresenhamScan) (p : Point) (t : BresenhamScan) → Good s → step_of s ≡ Seen p t → Good t
+pub step_good : (s : BresenhamScan) (p : Point) (t : BresenhamScan) → Good s → step_of s ≡ (Some p, t) → Good t
 step_good s p t g h = let n = step_seen s p t h in rw n.next (next_good s g n.more)
 
 -- ---- the points of a scan, by its steps: nothing is left out
-pub points_seen : (s : BresenhamScan) (p : Point) (t : BresenhamScan) → step_of s ≡ Seen p t → points s ≡ p ∷ points t
+pub points_seen : (s : BresenhamScan) (p : Point) (t : BresenhamScan) → step_of s ≡ (Some p, t) → points s ≡ p ∷ points t
 unfolding points points_of after
 points_seen s p t h =
     let n = step_seen s p t h in
     let e : s.d + 1 - s.i ≡ suc (t.d + 1 - t.i) = let m = n.more in let d = n.d_same in let i = n.i_next in omega arith in
     rw (e, h)
 
-pub points_done : (s : BresenhamScan) → step_of s ≡ Done → points s ≡ []
+pub points_done : (s t : BresenhamScan) → step_of s ≡ (None, t) → points s ≡ []
 unfolding points points_of
-points_done s h =
-    let l = step_done s h in
+points_done s t h =
+    let l = step_done s t h in
     let e : s.d + 1 - s.i ≡ zero = omega arith in
     rw e

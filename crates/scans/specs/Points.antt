@@ -1,15 +1,13 @@
 -- The points that a scan yields, step by step until it is done. Assumes nothing.
-use Rattle.std.specs.Prelude.{ℕ, zero, suc, ◌+◌, ◌-◌, List, [], ◌∷◌}
+use Rattle.std.specs.Prelude.{ℕ, zero, suc, ◌+◌, ◌-◌, List, [], ◌∷◌, Option, Some, None}
 use Rattle.points.specs.declared.Point.{Point}
 use Rattle.scans.specs.declared.BresenhamScan.{BresenhamScan}
-use Rattle.scans.specs.declared.Stepped.{Stepped}
-use Rattle.scans.specs.declared.Stepped.TheVariants.{Seen, Done}
 use Rattle.scans.specs.Scan.{step_of}
 
--- none after `Done`; else the point that was seen, and those of the scan that is left
-unfoldable pub after : (BresenhamScan → List Point) → Stepped → List Point
-after f Done = []
-after f (Seen p s) = p ∷ f s
+-- none after `None`; else the point that was seen, and those of the scan that is left
+unfoldable pub after : (BresenhamScan → List Point) → Option Point × BresenhamScan → List Point
+after f (None, s) = []
+after f (Some p, s) = p ∷ f s
 
 -- the points of k steps
 unfoldable pub points_of : ℕ → BresenhamScan → List Point

@@ -1,10 +1,8 @@
 -- A scan as a state and a step, taken from `BresenhamScan` of geometry.rs. Assumes nothing.
-use Rattle.std.specs.Prelude.{ℕ, ◌+◌, ◌-◌, ◌≤◌, Bool, true, false, cond, ltb, leb, ℤ, pos, negsuc, nat_abs, ◌+ℤ◌, ◌-ℤ◌}
+use Rattle.std.specs.Prelude.{ℕ, ◌+◌, ◌-◌, ◌≤◌, Bool, true, false, cond, ltb, leb, ℤ, pos, negsuc, nat_abs, ◌+ℤ◌, ◌-ℤ◌, Option, Some, None}
 use Rattle.refusals.specs.Limits.{farthest}
 use Rattle.points.specs.declared.Point.{Point}
 use Rattle.scans.specs.declared.BresenhamScan.{BresenhamScan}
-use Rattle.scans.specs.declared.Stepped.{Stepped}
-use Rattle.scans.specs.declared.Stepped.TheVariants.{Seen, Done}
 
 -- one step in a number's direction; 0 counts as positive
 unfoldable pub way_of : ℤ → ℤ
@@ -62,9 +60,9 @@ next_of s =
 abbrev pub here : BresenhamScan → Point
 here s = record { x = s.x; y = s.y }
 
--- the point where it stands, and the scan one step on; nothing once i has passed d
-unfoldable pub step_of : BresenhamScan → Stepped
-step_of s = cond (ltb s.d s.i) Done (Seen (here s) (next_of s))
+-- the point where it stands, and the scan one step on; no point once i has passed d
+unfoldable pub step_of : BresenhamScan → Option Point × BresenhamScan
+step_of s = cond (ltb s.d s.i) (None, s) (Some (here s), next_of s)
 
 -- what keeps a scan's numbers in range
 pub record Good (s : BresenhamScan) : Type 0 where

@@ -1,6 +1,7 @@
 #![tactic(auto)]
 
-ghost use Rattle.std.specs.Prelude.{◌≡◌, ◌+◌, ◌≤◌, nat_abs};
+ghost use Rattle.std.specs.Prelude.{◌≡◌, ◌+◌, ◌-◌, ◌≤◌, nat_abs};
+ghost use Rattle.std.specs.Iterator.{at_most};
 ghost use Rattle.refusals.specs.Limits.{farthest};
 ghost use Rattle.points.specs.Range.{Near};
 ghost use Rattle.scans.specs.Scan.{way_of, start_of, scan_of, placed_by, moved_by, next_of, step_of, Good};
@@ -26,13 +27,6 @@ pub struct BresenhamScan {
     pub a: u32,
     // whether x leads
     pub xdom: bool,
-}
-
-// What a step answers: the point that it sees and the scan that is left, or that there is none.
-#[derive(Clone, Copy)]
-pub enum Stepped {
-    Seen(Point, BresenhamScan),
-    Done,
 }
 
 // One step in a number's direction.
@@ -85,28 +79,8 @@ impl BresenhamScan {
         }
     }
 
-    // Sees the point that comes next, and moves on.
-    pub fn step(self) -> Stepped
-        requires { Good self }
-        ensures { result ≡ step_of self }
-    {
-        let i = self.i;
-        let d = self.d;
-        if i > d {
-            return Stepped::Done;
-        }
-        let next = self.next();
-        Stepped::Seen(
-            Point {
-                x: self.x,
-                y: self.y,
-            },
-            next,
-        )
-    }
-
     // One on in the leading direction, and one in the other where enough has gathered.
-    fn next(self) -> Self
+    fn moved_on(self) -> Self
         requires fact_1 { Good self }
         requires fact_2 { self.i ≤ self.d }
         ensures { result ≡ next_of self }
@@ -140,19 +114,35 @@ impl BresenhamScan {
         requires fact_4 { nat_abs dy ≤ 1 }
         ensures { result ≡ placed_by self dx dy left }
     {
-        let x = sum(self.x, dx);
-        let y = sum(self.y, dy);
-        let i = self.i + 1;
         BresenhamScan {
-            x: x,
-            y: y,
-            domstep: self.domstep,
-            nonstep: self.nonstep,
-            i: i,
-            d: self.d,
-            n: self.n,
+            x: sum(self.x, dx),
+            y: sum(self.y, dy),
+            i: self.i + 1,
             a: left,
-            xdom: self.xdom,
+            ..self
         }
+    }
+}
+
+impl Iterator for BresenhamScan {
+    type Item = Point;
+
+    ghost can_next = { Good };
+
+    ghost next_gives = { λ s p t. step_of s ≡ (p, t) };
+
+    ghost remaining = { λ s. at_most (s.d + 1 - s.i) };
+
+    // Sees the point that comes next, and moves on.
+    fn next(&mut self) -> Option<Point> {
+        if self.i > self.d {
+            return None;
+        }
+        let seen = Point {
+            x: self.x,
+            y: self.y,
+        };
+        *self = self.moved_on();
+        Some(seen)
     }
 }

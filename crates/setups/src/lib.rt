@@ -7,8 +7,9 @@ ghost use Rattle.grids.specs.Grid.{meaning, Modules, set_up};
 ghost use Rattle.setups.specs.Remember.{no_setup, MadeOf, Remembers};
 
 use capstones::blank;
-use grids::{Fit, SkewedGridLocation, setup_perspective};
+use grids::{SkewedGridLocation, setup_perspective};
 use points::Point;
+use refusals::Refusal;
 
 // What is remembered of a setup: its corners, its size, and the grid that it gave. Of size 0, which no symbol has, it is blank.
 #[derive(Clone, Copy)]
@@ -24,7 +25,7 @@ pub struct Setup {
 // What corners come to, and what is remembered of it.
 #[derive(Clone, Copy)]
 pub struct Answer {
-    pub fit: Fit,
+    pub fit: Result<Option<SkewedGridLocation>, Refusal>,
     pub setup: Setup,
 }
 
@@ -54,44 +55,16 @@ pub fn no_setups() -> [Setup; 31]
     [none; 31]
 }
 
-// Whether two points are the same.
-fn is_same(a: Point, b: Point) -> bool
-    ensures { result ≡ true → a ≡ b }
-{
-    if a.x != b.x {
-        return false;
-    }
-    if a.y != b.y {
-        return false;
-    }
-    true
-}
-
 // Whether a setup was made of these corners, with this size.
 fn is_made_of(s: Setup, p0: Point, p1: Point, p2: Point, p3: Point, size: usize) -> bool
     ensures { result ≡ true → MadeOf s p0 p1 p2 p3 size }
 {
-    if s.size != size {
-        return false;
-    }
-    if !is_same(s.p0, p0) {
-        return false;
-    }
-    if !is_same(s.p1, p1) {
-        return false;
-    }
-    if !is_same(s.p2, p2) {
-        return false;
-    }
-    if !is_same(s.p3, p3) {
-        return false;
-    }
-    true
+    s.size == size && s.p0 == p0 && s.p1 == p1 && s.p2 == p2 && s.p3 == p3
 }
 
 // What is remembered after a setup: its grid if there is one, and what was known else.
 fn remembered(
-    fit: Fit,
+    fit: Result<Option<SkewedGridLocation>, Refusal>,
     p0: Point,
     p1: Point,
     p2: Point,
@@ -102,7 +75,7 @@ fn remembered(
     ensures { (p : List ℕ) (w h : ℕ) → meaning fit ≡ set_up p w h size p0 p1 p2 p3 → Remembers p w h known → Remembers p w h result }
 {
     match fit {
-        Fit::Grid(grid) => Setup {
+        Ok(Some(grid)) => Setup {
             p0: p0,
             p1: p1,
             p2: p2,
@@ -110,8 +83,8 @@ fn remembered(
             size: size,
             grid: grid,
         },
-        Fit::NoGrid => known,
-        Fit::Refused(_) => known,
+        Ok(None) => known,
+        Err(_) => known,
     }
 }
 
@@ -135,7 +108,7 @@ pub fn set_up(
     if is_made_of(known, p0, p1, p2, p3, size) {
         let grid = known.grid;
         return Answer {
-            fit: Fit::Grid(grid),
+            fit: Ok(Some(grid)),
             setup: known,
         };
     }

@@ -16,28 +16,27 @@ ghost use Rattle.cells.specs.Cell.{meaning, cell_of};
 pub use bounds::Grid;
 pub use capstones::CapStone;
 pub use cells::Cell;
-pub use claim::Claimed;
 pub use detect::Findings;
 pub use fill::paint::Counts;
 pub use geometry::Perspective;
-pub use grids::{Fit, SkewedGridLocation};
+pub use grids::SkewedGridLocation;
 pub use groups::CapStoneGroup;
-pub use match_capstones::{Pair, Ranked, Ranking};
-pub use picture::{PixelColor, Verdict};
+pub use match_capstones::{Pair, Ranked};
+pub use picture::PixelColor;
 pub use points::Point;
 pub use refusals::Refusal;
 pub use regions::{ColoredRegion, Region};
 pub use table::{Entry, Table};
 
 // Makes a grey picture black and white, in place: 1, 2.
-pub fn prepare(pic: &mut [u8], width: usize, height: usize) -> Verdict
+pub fn prepare(pic: &mut [u8], width: usize, height: usize) -> Result<(), Refusal>
     ensures { Prepared width height pic.old result pic.new }
 {
     prepare::prepare(pic, width, height)
 }
 
 // Whether a picture is a bitmap with these sides: 1, 2, 4.
-pub fn accept(pic: &[u8], width: usize, height: usize) -> Verdict
+pub fn accept(pic: &[u8], width: usize, height: usize) -> Result<(), Refusal>
     ensures { judged result ≡ first (accept_tests pic.now width height) sound }
 {
     picture::accept(pic, width, height)
@@ -59,7 +58,7 @@ pub fn claim(
     x: usize,
     y: usize,
     target: u8,
-) -> Claimed
+) -> Result<Counts, Refusal>
     ensures { Outcome pic.old width height (length stack.old) x y target pic.new (claimed result) }
 {
     claim::claim(pic, width, height, stack, x, y, target)
@@ -83,7 +82,7 @@ pub fn read_cell(
     c: Perspective,
     y: u8,
     x: u8,
-) -> Cell
+) -> Result<Cell, Refusal>
     ensures { meaning result ≡ cell_of pic.now width height size c y x }
 {
     cells::read_cell(pic, width, height, size, c, y, x)

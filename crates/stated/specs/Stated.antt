@@ -1,5 +1,6 @@
 -- Stated points: document 01, "12 is tested for capstone centres, the three timing ends, the intersection, and the two mapped points of the size estimate", and 13 comes before 12 at one point. Assumes nothing.
-use Rattle.std.specs.Prelude.{Bool, not, ◌&&◌, [], ◌∷◌, leb, nat_abs, Float}
+use Rattle.std.specs.Prelude.{Bool, not, ◌&&◌, [], ◌∷◌, leb, nat_abs, Float, Result, Ok, Err}
+use Rattle.refusals.specs.declared.Refusal.{Refusal}
 use Rattle.refusals.specs.Limits.{farthest}
 use Rattle.refusals.specs.Finding.{Finding, found, refused, refused_by}
 use Rattle.refusals.specs.First.{Test, ◌when◌, first}
@@ -7,13 +8,11 @@ use Rattle.refusals.specs.declared.Refusal.TheVariants as refusal
 use Rattle.points.specs.declared.Point.{Point}
 use Rattle.geometry.specs.Map.{mapped}
 use Rattle.geometry.specs.declared.Perspective.{Perspective}
-use Rattle.stated.specs.declared.Stated.{Stated}
-use Rattle.stated.specs.declared.Stated.TheVariants.{At, Refused}
 
 -- an answer in document 01's terms: a point, or a refusal's number
-abbrev pub meaning : Stated → Finding Point
-meaning (At p) = found p
-meaning (Refused why) = refused_by why
+abbrev pub meaning : Result Point Refusal → Finding Point
+meaning (Ok p) = found p
+meaning (Err why) = refused_by why
 
 -- neither coordinate is further out than 10,000
 unfoldable pub near : Point → Bool

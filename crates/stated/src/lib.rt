@@ -5,16 +5,9 @@ ghost use Rattle.std.specs.Prelude.{◌≡◌, leb, nat_abs};
 ghost use Rattle.refusals.specs.Limits.{farthest};
 ghost use Rattle.stated.specs.Stated.{meaning, near, judged, stated_at};
 
-use geometry::{Perspective, Spot};
+use geometry::Perspective;
 use points::Point;
 use refusals::Refusal;
-
-// A stated point: where it lies, or why it is refused.
-#[derive(Clone, Copy)]
-pub enum Stated {
-    At(Point),
-    Refused(Refusal),
-}
 
 // Whether a coordinate is no further out than a stated point's may be.
 fn is_within(z: i32) -> bool
@@ -34,21 +27,18 @@ pub fn is_near(p: Point) -> bool
 }
 
 // A point: 12 where it lies too far out.
-pub fn judge(p: Point) -> Stated
+pub fn judge(p: Point) -> Result<Point, Refusal>
     ensures { meaning result ≡ judged p }
 {
     if !is_near(p) {
-        return Stated::Refused(Refusal::Far);
+        return Err(Refusal::Far);
     }
-    Stated::At(p)
+    Ok(p)
 }
 
 // The place of the grid's point (u, v): 13 where it lies at none, then 12 where it lies too far out.
-pub fn state(c: Perspective, u: f64, v: f64) -> Stated
+pub fn state(c: Perspective, u: f64, v: f64) -> Result<Point, Refusal>
     ensures { meaning result ≡ stated_at c u v }
 {
-    match c.map(u, v) {
-        Spot::Placed(p) => judge(p),
-        Spot::Unplaced => Stated::Refused(Refusal::Unplaced),
-    }
+    judge(c.map(u, v).ok_or(Refusal::Unplaced)?)
 }

@@ -2,7 +2,8 @@
 // The 252nd lookup gets byte 5, and x = 0 is 1 again. Writes the bytes at x = 0, 2, 500 and 502 after that, and the table's count.
 #![tactic(auto)]
 
-ghost use Rattle.std.specs.Prelude.{◌≡◌, length};
+ghost use Rattle.std.specs.Prelude.{◌≡◌, Result, length};
+ghost use Rattle.refusals.specs.declared.Refusal.{Refusal};
 ghost use Rattle.regions.specs.declared.ColoredRegion.{ColoredRegion};
 ghost use Rattle.regions.specs.Found.{meaning};
 ghost use Rattle.regions.specs.Lookup.{LookPost};
@@ -15,29 +16,25 @@ use table::{Table, empty};
 fn draw(pic: &mut [u8])
     requires { length pic.old ≡ 503 }
 {
-    let mut k = 0;
-    while k < 252 {
+    for k in 0..252 {
         pic[k * 2] = 1;
-        k += 1;
     }
 }
 
 // Looks one pixel up, with the table lent.
 fn look_at(pic: &mut [u8], stack: &mut [u32], before: Table, x: usize) -> Table
-    ensures { (a : ColoredRegion) × LookPost pic.old 503 1 (length stack.old) before x 0 (meaning a) pic.new result }
+    ensures { (a : Result ColoredRegion Refusal) × LookPost pic.old 503 1 (length stack.old) before x 0 (meaning a) pic.new result }
 {
     let mut table = before;
-    look_up(pic, 503, 1, stack, &mut table, x, 0);
+    let _ = look_up(pic, 503, 1, stack, &mut table, x, 0);
     table
 }
 
 // Looks the black pixels up, from left to right.
 fn look_along(pic: &mut [u8], stack: &mut [u32], start: Table) -> Table {
     let mut latest = start;
-    let mut k: usize = 0;
-    while k < 252 {
+    for k in 0..252 {
         latest = look_at(pic, stack, latest, k * 2);
-        k += 1;
     }
     latest
 }

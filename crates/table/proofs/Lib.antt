@@ -1,8 +1,5 @@
-pub mod Places
 pub mod Sought
-pub mod Onward
 pub mod Marks
-pub mod Round
 pub mod Seeds
 pub mod Times
 pub mod Exact

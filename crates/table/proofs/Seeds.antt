@@ -1,30 +1,30 @@
--- How `all_inside` goes down the entries, and that its test is exact. Assumes nothing.
-use Prim.Native.Nat.{ℕ, zero, suc, ◌<◌}
+-- What `all_inside` tests, and that its test is exact. Assumes nothing.
+use Prim.Native.Nat.{ℕ, zero, suc, ◌≤◌, ◌<◌}
 use native.Mathlib.Decide.{ℕ_discrete}
+use native.Mathlib.Numerals.{add-one}
 use native.Mathlib.Omega.{arith}
-use mathlib.Core.Path.{◌≡◌, refl, sym, subst, ◌∙◌}
+use mathlib.Core.Path.{◌≡◌, refl, sym, ap, subst, ◌∙◌}
 use mathlib.Core.List.{List}
-use mathlib.Core.Bool.{true, false, and-eq-true_iff}
+use mathlib.Core.Bool.{true, ◌&&◌, and-eq-true_iff}
 use mathlib.Core.Logic.{◌↔◌, by_cases}
-use lib.ListN.{get_or}
+use lib.ListN.{length, get_or, take}
 use lib.Dec.{ltb}
 use borrow.Author.Tests.{ltb-true, lt-ltb}
+use Rattle.std.specs.List.{list_all}
+use Rattle.std.proofs.lemmas.List.Folds.{list_all_more}
+use Rattle.std.proofs.Math.Bool.{and_comm}
 use Rattle.table.specs.Table.{blank}
 use Rattle.table.specs.Sound.{Inside, inside, all_inside}
 use Rattle.table.specs.declared.Entry.{Entry}
 
-module _ (E : List Entry) (n width height i k : ℕ) (is : i ≡ suc k) (so : all_inside E n width height ≡ all_inside E i width height) where
-  pub seed_out : inside (get_or E k blank) width height ≡ false → false ≡ all_inside E n width height
-  unfolding all_inside
-  seed_out e = sym (so ∙ rw (is, e))
-
-  pub seed_in : inside (get_or E k blank) width height ≡ true → all_inside E n width height ≡ all_inside E k width height
-  unfolding all_inside
-  seed_in e = so ∙ rw (is, e)
-
-pub seeds_end : (E : List Entry) (n width height i : ℕ) → i ≡ 0 → all_inside E n width height ≡ all_inside E i width height → true ≡ all_inside E n width height
+-- the test of each of the first n is the test that goes down them
+pub seeds_tested : (E : List Entry) (n width height : ℕ) → n ≤ length E → list_all (λ e. inside e width height) (take n E) ≡ all_inside E n width height
 unfolding all_inside
-seeds_end E n width height i z so = sym (so ∙ rw z)
+seeds_tested E zero width height h = refl
+seeds_tested E (suc n) width height h =
+    ap (λ (m : ℕ). list_all (λ e. inside e width height) (take m E)) (sym (add-one n)) ∙ list_all_more (λ e. inside e width height) E n blank h
+    ∙ ap (λ b. b && inside (get_or E n blank) width height) (seeds_tested E n width height (omega arith))
+    ∙ and_comm (all_inside E n width height) (inside (get_or E n blank) width height)
 
 pub inside_exact : (e : Entry) (width height : ℕ) → (inside e width height ≡ true) ↔ Inside e width height
 inside_exact e width height = (

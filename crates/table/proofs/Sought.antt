@@ -1,46 +1,26 @@
--- How `place_of` seeks a number, from the front: none of those that it has passed is the number. Assumes nothing.
-use Prim.Native.Nat.{ℕ, ◌+◌, ◌≤◌, ◌<◌}
-use native.Mathlib.Numerals.{add-one}
+-- What `place_of` finds is the first place of a number. Assumes nothing.
+use Prim.Native.Nat.{ℕ, zero, suc, ◌<◌}
 use native.Mathlib.Omega.{arith}
-use mathlib.Core.Path.{◌≡◌, refl, ap, ◌∙◌}
-use mathlib.Core.List.{List}
-use lib.ListN.{length, get_or, take}
-use lib.Seq.{take-suc}
-use borrow.Author.Tests.{ne_eqb}
-use Rattle.table.specs.Age.{Stands, FirstAt, times}
-use Rattle.table.proofs.Times.{times_append}
+use mathlib.Core.Path.{◌≡◌, refl}
+use mathlib.Core.List.{List, [], ◌∷◌}
+use mathlib.Core.Bool.{false}
+use lib.ListN.{get_or, take}
+use lib.Dec.{eqb}
+use borrow.Author.Tests.{eqb-true}
+use Rattle.std.specs.List.{position}
+use Rattle.std.specs.Prelude.{Some}
+use Rattle.std.proofs.lemmas.List.Quantifiers.{position-Some}
+use Rattle.table.specs.Age.{FirstAt, times}
 
--- k stands in l, and not among the first i
-pub record Sought (k : ℕ) (l : List ℕ) (i : ℕ) : Type 0 where
-  pub place : ℕ
-  pub later : i ≤ place
-  pub inside : place < length l
-  pub is_k : get_or l place 0 ≡ k
-  pub passed : times k (take i l) ≡ 0
-
--- at first none is passed
-pub seek_begin : (k : ℕ) (l : List ℕ) → Stands k l → Sought k l 0
+-- k is not among the first i
+none_before : (k : ℕ) (l : List ℕ) (i : ℕ) → ((j : ℕ) → j < i → eqb (get_or l j 0) k ≡ false) → times k (take i l) ≡ 0
 unfolding times
-seek_begin k l s = record { place = s.0; later = omega arith; inside = s.1; is_k = s.2; passed = refl }
+none_before k l zero other = refl
+none_before k [] (suc i) other = refl
+none_before k (x ∷ l) (suc i) other = rw (other 0 (omega arith)) (none_before k l i (λ j h. other (suc j) (omega arith)))
 
-module _ {k : ℕ} {l : List ℕ} {i : ℕ} (S : Sought k l i) where
-  -- the search stays inside
-  within : i < length l
-  within = omega (arith, S.later, S.inside)
-
-  -- one more is passed that is not k
-  pub seek_on : (get_or l i 0 ≡ k → ⊥) → Sought k l (i + 1)
-  unfolding times
-  seek_on other =
-      let not_yet : i ≡ S.place → ⊥ = λ e. other (ap (λ (j : ℕ). get_or l j 0) e ∙ S.is_k) in
-      record {
-        place = S.place;
-        later = omega (arith, S.later);
-        inside = S.inside;
-        is_k = S.is_k;
-        passed = rw (add-one, take-suc l i 0 within, times_append, ne_eqb (get_or l i 0) k other) (omega (arith, S.passed));
-      }
-
-  -- where k is met it stands first
-  pub seek_end : get_or l i 0 ≡ k → FirstAt k i l
-  seek_end here = record { inside = within; is_k = here; not_before = S.passed }
+-- the place at which k is met first
+pub first_met : (k : ℕ) (l : List ℕ) (i : ℕ) → position (λ x. eqb x k) l ≡ Some i → FirstAt k i l
+first_met k l i found =
+    let at = position-Some (λ x. eqb x k) l i 0 found in
+    record { inside = at.0; is_k = eqb-true _ k at.1; not_before = none_before k l i at.2 }

@@ -43,11 +43,12 @@ pub fn copied(t: Table) -> Table
     requires { t.n ≤ 251 }
     ensures { result ≡ copy_of t }
 {
-    let mut u = t;
-    let n = u.n;
-    let old = u.age;
-    let mut age = u.age;
-    age::turn_round(&old, n, &mut age);
-    u.age = age;
-    u
+    let entries = t.entries;
+    let mut age = t.age;
+    age[..t.n].reverse();
+    Table {
+        entries: entries,
+        age: age,
+        n: t.n,
+    }
 }

@@ -21,16 +21,9 @@ fn all_inside(t: Table, n: usize, width: usize, height: usize) -> bool
     requires { n ≤ 251 }
     ensures { result ≡ all_inside t.entries n width height }
 {
-    let mut i = n;
-    while 0 < i {
-        let k = i - 1;
-        let e = t.entries[k];
-        if !entry_inside(e, width, height) {
-            return false;
-        }
-        i = k;
-    }
-    true
+    t.entries[..n]
+        .iter()
+        .all(|e| entry_inside(*e, width, height))
 }
 
 // Whether a table of a caller's can be worked with: the test of refusal 9.

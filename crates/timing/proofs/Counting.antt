@@ -8,12 +8,12 @@ use mathlib.Core.Bool.{Bool, true, false, cond}
 use mathlib.Core.List.{List, [], ◌∷◌, map}
 use lib.Dec.{eqb}
 use lib.ListN.{length, length-map}
+use Rattle.std.specs.Prelude.{Some, None}
 use Rattle.points.specs.declared.Point.{Point}
 use Rattle.points.specs.Range.{Near}
 use Rattle.sizes.proofs.Size.{size_sub}
 use Rattle.pixels.specs.Nearest.{shown_at}
 use Rattle.scans.specs.declared.BresenhamScan.{BresenhamScan}
-use Rattle.scans.specs.declared.Stepped.TheVariants.{Seen, Done}
 use Rattle.scans.specs.Scan.{Good, scan_of, step_of}
 use Rattle.scans.specs.Points.{points}
 use Rattle.scans.proofs.Steps.{step_seen, step_good, points_seen, points_done}
@@ -49,7 +49,7 @@ module _ (pic : List ℕ) (width height : ℕ) where
 
   module _ {first previous count : ℕ} {s t : BresenhamScan} (c : Counting first previous count s t) where
     -- a point that is seen counts where its byte differs from the one before
-    pub one_counted : {p : Point} {u : BresenhamScan} {pixel one : ℕ} → step_of t ≡ Seen p u → pixel ≡ shown_at pic width height p → one ≡ change previous pixel → Counting first pixel (count + one) s u
+    pub one_counted : {p : Point} {u : BresenhamScan} {pixel one : ℕ} → step_of t ≡ (Some p, u) → pixel ≡ shown_at pic width height p → one ≡ change previous pixel → Counting first pixel (count + one) s u
     unfolding changes_after
     one_counted {p} {u} {pixel} {one} step shown is =
         let next = step_seen t p u step in
@@ -59,11 +59,11 @@ module _ (pic : List ℕ) (width height : ℕ) where
         record { all = omega (arith, all, is); few = omega (arith, next.i_next, is); good = step_good t p u c.good step }
 
     -- once the scan is done, all is counted
-    pub all_counted : (from to : Point) → first ≡ shown_at pic width height from → s ≡ scan_of from to → step_of t ≡ Done → count ≡ changes (bytes_along pic width height from to)
+    pub all_counted : (from to : Point) {u : BresenhamScan} → first ≡ shown_at pic width height from → s ≡ scan_of from to → step_of t ≡ (None, u) → count ≡ changes (bytes_along pic width height from to)
     unfolding changes_after bytes_along
-    all_counted from to shown made done =
+    all_counted from to {u} shown made done =
         let start = (scan_walks from to).first in
-        let all = rw (points_done t done, made, start.1, shown) at c.all in
+        let all = rw (points_done t u done, made, start.1, shown) at c.all in
         let whole = same_start (shown_at pic width height from) (bytes start.0) in
         rw start.1 (sym (add-zero count) ∙ all ∙ whole)
 

@@ -1,4 +1,6 @@
 -- What a measured timing pattern tells: where all ends are stated, the larger of two counts that are not both 0; and such a size is some version's. Assumes nothing.
+use Rattle.std.specs.Prelude.{Result, Ok, Err}
+use Rattle.refusals.specs.declared.Refusal.{Refusal}
 use Prim.Native.Nat.{ℕ, ◌+◌, ◌≤◌, max}
 use native.Mathlib.Decide.{dec_le}
 use native.Mathlib.Omega.{arith}
@@ -18,8 +20,6 @@ use Rattle.stated.proofs.Reach.{stated_near}
 use Rattle.version_db.specs.AnnexE.{size_of, version_of}
 use Rattle.timing.specs.Counted.{most_changes, grid_size}
 use Rattle.timing.specs.Measure.{meaning, size_by, size_between, measured_between, measured_of}
-use Rattle.timing.specs.declared.Measured.{Measured}
-use Rattle.timing.specs.declared.Measured.TheVariants.{Size, Refused}
 use Rattle.timing.proofs.Counting.{changes_few}
 use Rattle.timing.proofs.Versions.{size_least, size_most, size_of_version}
 
@@ -80,11 +80,11 @@ module _ (pic : List ℕ) (width height n : ℕ) where
 
 -- ---- two answers that the contract allows coincide
 
-meaning_only : (a b : Measured) → meaning a ≡ meaning b → a ≡ b
-meaning_only (Size m) (Size n) e = ap Size (cc)
-meaning_only (Size m) (Refused r) e = clash (sym e)
-meaning_only (Refused q) (Size n) e = clash e
-meaning_only (Refused q) (Refused r) e = ap Refused (refusal_only {a = q} {b = r} e)
+meaning_only : (a b : Result ℕ Refusal) → meaning a ≡ meaning b → a ≡ b
+meaning_only (Ok m) (Ok n) e = ap Ok (cc)
+meaning_only (Ok m) (Err r) e = clash (sym e)
+meaning_only (Err q) (Ok n) e = clash e
+meaning_only (Err q) (Err r) e = ap Err (refusal_only {a = q} {b = r} e)
 
-pub measured_only : (a b : Measured) (f : Finding ℕ) → meaning a ≡ f → meaning b ≡ f → a ≡ b
+pub measured_only : (a b : Result ℕ Refusal) (f : Finding ℕ) → meaning a ≡ f → meaning b ≡ f → a ≡ b
 measured_only a b f p q = meaning_only a b (p ∙ sym q)

@@ -1,5 +1,6 @@
 -- Measuring the timing pattern between three stones: document 01, refusals 12, 13 and 14; the ends are taken from the Rust, `measure_timing_pattern`. Definitions alone.
-use Rattle.std.specs.Prelude.{ℕ, max, ◌&&◌, List, [], ◌∷◌, eqb}
+use Rattle.std.specs.Prelude.{ℕ, max, ◌&&◌, List, [], ◌∷◌, eqb, Result, Ok, Err}
+use Rattle.refusals.specs.declared.Refusal.{Refusal}
 use Rattle.refusals.specs.Finding.{Finding, found, refused, refused_by}
 use Rattle.refusals.specs.First.{Test, ◌when◌, first}
 use Rattle.refusals.specs.declared.Refusal.TheVariants as refusal
@@ -9,13 +10,11 @@ use Rattle.stated.specs.Stated.{stated_at}
 use Rattle.cells.specs.Cell.{middle}
 use Rattle.timing.specs.Changes.{changes, bytes_along}
 use Rattle.timing.specs.Counted.{grid_size}
-use Rattle.timing.specs.declared.Measured.{Measured}
-use Rattle.timing.specs.declared.Measured.TheVariants.{Size, Refused}
 
 -- an answer in document 01's terms: a grid size, or a refusal's number
-abbrev pub meaning : Measured → Finding ℕ
-meaning (Size n) = found n
-meaning (Refused why) = refused_by why
+abbrev pub meaning : Result ℕ Refusal → Finding ℕ
+meaning (Ok n) = found n
+meaning (Err why) = refused_by why
 
 -- 14: both timing scans count 0
 abbrev pub timing_test : ℕ → ℕ → Test

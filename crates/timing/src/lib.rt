@@ -4,7 +4,7 @@
 mod scan;
 mod size;
 
-ghost use Rattle.std.specs.Prelude.{◌≡◌, ◌≤◌, max, length};
+ghost use Rattle.std.specs.Prelude.{◌≡◌, ◌≤◌, length};
 ghost use Rattle.points.specs.Range.{Near};
 ghost use Rattle.picture.specs.Sides.{Sized};
 ghost use Rattle.timing.specs.Counted.{most_changes};
@@ -15,35 +15,19 @@ use points::Point;
 use refusals::Refusal;
 pub use scan::timing_scan;
 pub use size::grid_size;
-use stated::{Stated, state};
-
-// A measured grid: the modules along its side, or a refusal.
-#[derive(Clone, Copy)]
-pub enum Measured {
-    Size(usize),
-    Refused(Refusal),
-}
-
-fn larger(a: usize, b: usize) -> usize
-    ensures { result ≡ max a b }
-{
-    if a < b {
-        return b;
-    }
-    a
-}
+use stated::state;
 
 // The size that two scans tell: 14 where both count 0.
-fn size_by(hscan: usize, vscan: usize) -> Measured
+fn size_by(hscan: usize, vscan: usize) -> Result<usize, Refusal>
     requires fact_1 { hscan ≤ most_changes }
     requires fact_2 { vscan ≤ most_changes }
     ensures { meaning result ≡ size_by hscan vscan }
 {
-    let scan = larger(hscan, vscan);
+    let scan = hscan.max(vscan);
     if scan == 0 {
-        return Measured::Refused(Refusal::Timing);
+        return Err(Refusal::Timing);
     }
-    Measured::Size(grid_size(scan))
+    Ok(grid_size(scan))
 }
 
 // The size that the scans from the middle one of three ends to the others tell.
@@ -54,7 +38,7 @@ fn size_between(
     p0: Point,
     p1: Point,
     p2: Point,
-) -> Measured
+) -> Result<usize, Refusal>
     requires fact_1 { Sized width height (length pic.now) }
     requires fact_2 { Near p0 }
     requires fact_3 { Near p1 }
@@ -74,21 +58,12 @@ pub fn measure_timing_pattern(
     c0: Perspective,
     c1: Perspective,
     c2: Perspective,
-) -> Measured
+) -> Result<usize, Refusal>
     requires { Sized width height (length pic.now) }
     ensures { meaning result ≡ measured_of pic.now width height c0 c1 c2 }
 {
-    let end0 = state(c0, 6.5, 0.5);
-    let end1 = state(c1, 6.5, 6.5);
-    let end2 = state(c2, 0.5, 6.5);
-    match end0 {
-        Stated::Refused(why) => Measured::Refused(why),
-        Stated::At(p0) => match end1 {
-            Stated::Refused(why) => Measured::Refused(why),
-            Stated::At(p1) => match end2 {
-                Stated::Refused(why) => Measured::Refused(why),
-                Stated::At(p2) => size_between(pic, width, height, p0, p1, p2),
-            },
-        },
-    }
+    let p0 = state(c0, 6.5, 0.5)?;
+    let p1 = state(c1, 6.5, 6.5)?;
+    let p2 = state(c2, 0.5, 6.5)?;
+    size_between(pic, width, height, p0, p1, p2)
 }

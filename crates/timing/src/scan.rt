@@ -6,16 +6,13 @@ ghost use Rattle.timing.specs.Changes.{change, changes, bytes_along};
 
 use pixels::get_pixel_at_point;
 use points::Point;
-use scans::{BresenhamScan, Stepped};
+use scans::BresenhamScan;
 
 // 1 where two bytes differ, and 0 where they do not.
 fn differ(a: u8, b: u8) -> usize
     ensures { result ≡ change a b }
 {
-    if a == b {
-        return 0;
-    }
-    1
+    usize::from(a != b)
 }
 
 // The changes from byte to byte along a scan. Its first point is where it starts from, and changes nothing.
@@ -26,16 +23,11 @@ pub fn timing_scan(pic: &[u8], width: usize, height: usize, from: Point, to: Poi
     ensures { result ≡ changes (bytes_along pic.now width height from to) }
 {
     let mut previous = get_pixel_at_point(pic, width, height, from);
-    let mut scan = BresenhamScan::new(from, to);
     let mut count: usize = 0;
-    loop {
-        let step = scan.step();
-        let Stepped::Seen(p, next) = step else {
-            return count;
-        };
+    for p in BresenhamScan::new(from, to) {
         let pixel = get_pixel_at_point(pic, width, height, p);
         count += differ(previous, pixel);
         previous = pixel;
-        scan = next;
     }
+    count
 }

@@ -17,8 +17,7 @@ pub fn numbers(x: i32, y: i32, out: &mut [i32]) -> u8
     requires { 2 ≤ length out.old }
     ensures { Told (found (these (x ∷ y ∷ []))) out.old result out.new }
 {
-    out[0] = x;
-    out[1] = y;
+    numbers_at(0, x, y, out);
     0
 }
 

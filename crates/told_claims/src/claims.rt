@@ -5,9 +5,8 @@ ghost use Rattle.claim.specs.Outcome.{claimed};
 ghost use Rattle.told.specs.Answer.{Told};
 ghost use Rattle.told_claims.specs.Claims.{count_values, Claims};
 
-use claim::Claimed;
 use fill::paint::Counts;
-use refusals::number_of;
+use refusals::Refusal;
 
 fn put_counts(n: Counts, out: &mut [usize]) -> u8
     requires { 3 ≤ length out.old }
@@ -19,13 +18,13 @@ fn put_counts(n: Counts, out: &mut [usize]) -> u8
     0
 }
 
-fn put_claimed(a: Claimed, out: &mut [usize]) -> u8
+fn put_claimed(a: Result<Counts, Refusal>, out: &mut [usize]) -> u8
     requires { 3 ≤ length out.old }
     ensures { Told (count_values (claimed a)) out.old result out.new }
 {
     match a {
-        Claimed::Done(n) => put_counts(n, out),
-        Claimed::Refused(why) => number_of(why),
+        Ok(n) => put_counts(n, out),
+        Err(why) => u8::from(why),
     }
 }
 

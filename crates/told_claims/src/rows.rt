@@ -6,9 +6,7 @@ ghost use Rattle.fill.specs.Fill.{Fillable};
 ghost use Rattle.told_claims.specs.Rows.{Listed, Lists};
 
 use fill::step::{Stepped, fill_step, seed};
-use picture::Verdict;
 use pieces::Row;
-use refusals::number_of;
 
 // A row's left and right end and its line, from the place `at` on.
 fn put_row(row: Row, at: usize, out: &mut [usize])
@@ -38,6 +36,7 @@ fn list_rows(
     let from = seed(pic, w, h, x, y, stack);
     let mut sp = 1;
     let mut at = 0;
+    // The stack decides when it ends. A finder (crate corners) is a plain value, handed on from row to row; here the rows go into a slice that is lent.
     while sp > 0 {
         match fill_step(pic, w, h, from, to, stack, sp) {
             Stepped::Met(row, top) => {
@@ -94,7 +93,7 @@ pub fn rows(
     ensures { Lists pic.old width height (length stack.old) x y target pic.new rows.old rows.new count.old count.new result }
 {
     match claim::judge(pic, width, height, stack.len(), x, y, target) {
-        Verdict::Refused(why) => number_of(why),
-        Verdict::Sound => put_rows(pic, width, height, stack, x, y, target, rows, count),
+        Err(why) => u8::from(why),
+        Ok(()) => put_rows(pic, width, height, stack, x, y, target, rows, count),
     }
 }

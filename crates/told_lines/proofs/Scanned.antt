@@ -7,9 +7,9 @@ use mathlib.Core.List.{List, [], ◌∷◌, ◌++◌, append_assoc, append-nil}
 use lib.Dec.{ltb}
 use lib.IntN.{ℤ, nat_abs, ◌-ℤ◌}
 use lib.ListN.{length, drop, set, length-append, length-drop}
+use Rattle.std.specs.Prelude.{Some, None}
 use Rattle.points.specs.declared.Point.{Point}
 use Rattle.scans.specs.declared.BresenhamScan.{BresenhamScan}
-use Rattle.scans.specs.declared.Stepped.TheVariants.{Seen, Done}
 use Rattle.scans.specs.Scan.{Good, start_of, scan_of, here, next_of, step_of}
 use Rattle.scans.specs.Points.{points_of, points}
 use Rattle.scans.proofs.Steps.{next_d, next_i, step_is, step_good, points_seen, points_done}
@@ -29,10 +29,10 @@ none_written before s good = record { seen = []; places = refl; put = refl; all 
 
 module _ {before after : List ℤ} {at : ℕ} {s t : BresenhamScan} (w : Written before after at s t) where
   -- a scan that is done has written them all
-  pub all_written : step_of t ≡ Done → after ≡ flat (points s) ++ drop (length (flat (points s))) before
+  pub all_written : {u : BresenhamScan} → step_of t ≡ (None, u) → after ≡ flat (points s) ++ drop (length (flat (points s))) before
   unfolding flat
-  all_written done =
-      let none : flat (points t) ≡ [] = rw (points_done t done) in
+  all_written {u} done =
+      let none : flat (points t) ≡ [] = rw (points_done t u done) in
       let whole : w.seen ≡ flat (points s) = sym (append-nil w.seen) ∙ rw none at w.all in
       rw whole at w.put
 
@@ -44,7 +44,7 @@ module _ {before after : List ℤ} {at : ℕ} {s t : BresenhamScan} (w : Written
       let rest = length-drop (length w.seen) before in
       omega arith
 
-  module _ {p : Point} {u : BresenhamScan} (step : step_of t ≡ Seen p u) where
+  module _ {p : Point} {u : BresenhamScan} (step : step_of t ≡ (Some p, u)) where
     left : (w.seen ++ (p.x ∷ p.y ∷ flat (points u))) ≡ flat (points s)
     unfolding flat
     left = rw (points_seen t p u step) at w.all

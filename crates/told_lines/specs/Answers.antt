@@ -1,20 +1,18 @@
 -- What the calls on lines and scans answer, in terms of the crates that they lead to. Assumes nothing.
-use Rattle.std.specs.Prelude.{ℕ, List, [], ◌∷◌, ℤ, length}
+use Rattle.std.specs.Prelude.{ℕ, List, [], ◌∷◌, ℤ, length, Option, Some, None}
 use Rattle.refusals.specs.Finding.{Finding, found}
 use Rattle.refusals.specs.First.{first}
 use Rattle.points.specs.declared.Point.{Point}
 use Rattle.lines.specs.Meet.{meet_of}
-use Rattle.lines.specs.declared.Meet.{Meet}
-use Rattle.lines.specs.declared.Meet.TheVariants as meet
 use Rattle.scans.specs.Scan.{scan_of}
 use Rattle.scans.specs.Points.{points}
 use Rattle.told.specs.Answer.{Values, these, nothing, fewer_than}
 use Rattle.told.specs.Points.{point_at, no_pixel, too_far}
 
 -- x and y, or nothing
-unfoldable pub meet_values : Meet → Finding (Values ℤ)
-meet_values (meet.At p) = found (these (p.x ∷ p.y ∷ []))
-meet_values meet.Nowhere = found nothing
+unfoldable pub meet_values : Option Point → Finding (Values ℤ)
+meet_values (Some p) = found (these (p.x ∷ p.y ∷ []))
+meet_values None = found nothing
 
 -- where two lines cross, for points that are pixels (12)
 unfoldable pub cross_values : Point → Point → Point → Point → Finding (Values ℤ)

@@ -3,17 +3,16 @@ ghost use Rattle.std.specs.Prelude.{◌≤◌, length};
 ghost use Rattle.told.specs.Answer.{Told};
 ghost use Rattle.told_lines.specs.Answers.{meet_values, cross_values, cross_answer};
 
-use lines::Meet;
 use points::Point;
 use told::{place, put};
 
-fn put_meet(m: Meet, out: &mut [i32]) -> u8
+fn put_meet(m: Option<Point>, out: &mut [i32]) -> u8
     requires { 2 ≤ length out.old }
     ensures { Told (meet_values m) out.old result out.new }
 {
     match m {
-        Meet::At(p) => put::numbers(p.x, p.y, out),
-        Meet::Nowhere => 255,
+        Some(p) => put::numbers(p.x, p.y, out),
+        None => 255,
     }
 }
 

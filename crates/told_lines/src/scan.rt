@@ -7,7 +7,7 @@ ghost use Rattle.told.specs.Answer.{Told, these};
 ghost use Rattle.told_lines.specs.Answers.{flat, scan_answer};
 
 use points::Point;
-use scans::{BresenhamScan, Stepped};
+use scans::BresenhamScan;
 use told::{place, put};
 
 // Writes the points that s has still to see.
@@ -16,17 +16,12 @@ fn put_points(s: BresenhamScan, out: &mut [i32]) -> u8
     requires fact_2 { length (flat (points s)) ≤ length out.old }
     ensures { Told (found (these (flat (points s)))) out.old result out.new }
 {
-    let mut scan = s;
     let mut at: usize = 0;
-    loop {
-        let step = scan.step();
-        let Stepped::Seen(p, next) = step else {
-            return 0;
-        };
+    for p in s {
         put::numbers_at(at, p.x, p.y, out);
         at += 2;
-        scan = next;
     }
+    0
 }
 
 // Writes the points from one end to the other, once both are near and there are places for all.

@@ -3,31 +3,21 @@
 
 ghost use Rattle.std.specs.Prelude.{◌≡◌};
 ghost use Rattle.refusals.specs.First.{first, sound};
-ghost use Rattle.picture.specs.Verdict.{judged};
 ghost use Rattle.picture.specs.Bitmap.{accept_tests};
 ghost use Rattle.told_pictures.specs.Pictures.{verdict_number, Thresholds};
 
-use picture::Verdict;
-
-fn verdict_number(v: Verdict) -> u8
-    ensures { result ≡ verdict_number (judged v) }
-{
-    match v {
-        Verdict::Sound => 0,
-        Verdict::Refused(why) => refusals::number_of(why),
-    }
-}
+use told_places::status_of;
 
 // Whether a picture is a bitmap, of bytes 0 and 1: 0, or the refusal 1, 2 or 4.
 pub fn accept(pic: &[u8], width: usize, height: usize) -> u8
     ensures { result ≡ verdict_number (first (accept_tests pic.now width height) sound) }
 {
-    verdict_number(picture::accept(pic, width, height))
+    status_of(picture::accept(pic, width, height))
 }
 
 // Makes a grey picture, 0 for black, a bitmap, in place: 0, or the refusal 1 or 2.
 pub fn prepare(pic: &mut [u8], width: usize, height: usize) -> u8
     ensures { Thresholds width height pic.old result pic.new }
 {
-    verdict_number(prepare::prepare(pic, width, height))
+    status_of(prepare::prepare(pic, width, height))
 }

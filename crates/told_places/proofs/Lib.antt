@@ -1,2 +1,2 @@
 pub mod Places
-mod Stored
+pub mod Made

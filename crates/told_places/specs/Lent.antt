@@ -1,5 +1,7 @@
--- A region table as a caller lends it, number by number. Definitions alone.
-use Rattle.std.specs.Prelude.{ℕ, zero, suc, ◌+◌, ◌*◌, cond, List, [], ◌∷◌, ◌++◌, ltb, get_or}
+-- A region table and a perspective as a caller lends them, number by number. Definitions alone.
+use Rattle.std.specs.Prelude.{ℕ, zero, suc, ◌+◌, ◌*◌, cond, List, [], ◌∷◌, ◌++◌, Float, ltb, get_or}
+use Rattle.std.specs.Float.{nan}
+use Rattle.geometry.specs.declared.Perspective.{Perspective}
 use Rattle.table.specs.declared.Entry.{Entry}
 use Rattle.table.specs.declared.Table.{Table}
 
@@ -27,3 +29,16 @@ first_of f (suc n) = first_of f n ++ (f n ∷ [])
 -- the table: 251 places, and behind them how many entries there are
 unfoldable pub table_of : List ℕ → Table
 table_of counts = record { entries = first_of (entry_at counts) 251; age = first_of (age_at counts) 251; n = get_or counts 1004 0 }
+
+-- the perspective whose eight coefficients stand from a place on
+unfoldable pub perspective_at : List Float → ℕ → Perspective
+perspective_at cs at = record {
+  c0 = get_or cs at nan;
+  c1 = get_or cs (at + 1) nan;
+  c2 = get_or cs (at + 2) nan;
+  c3 = get_or cs (at + 3) nan;
+  c4 = get_or cs (at + 4) nan;
+  c5 = get_or cs (at + 5) nan;
+  c6 = get_or cs (at + 6) nan;
+  c7 = get_or cs (at + 7) nan;
+}

@@ -1,8 +1,7 @@
 -- What stands in the places of a lent slice: a perspective's coefficients, a region table; and a verdict's number. Definitions alone.
-use Rattle.std.specs.Prelude.{ℕ, List, [], ◌∷◌, Float, get_or}
+use Rattle.std.specs.Prelude.{ℕ, List, [], ◌∷◌, Float, get_or, Result, Ok, Err}
+use Rattle.refusals.specs.declared.Refusal.{Refusal}
 use Rattle.refusals.specs.Numbers.{number_of}
-use Rattle.picture.specs.declared.Verdict.{Verdict}
-use Rattle.picture.specs.declared.Verdict.TheVariants.{Sound, Refused}
 use Rattle.geometry.specs.declared.Perspective.{Perspective}
 use Rattle.table.specs.Table.{entry_of}
 use Rattle.table.specs.declared.Entry.{Entry}
@@ -34,6 +33,6 @@ abbrev pub table_put : Table → ℕ → ℕ → List ℕ → List ℕ
 table_put T first second s = put_at (all_entries T s) 1004 (T.n ∷ first ∷ second ∷ [])
 
 -- what a call returns: 0, or the number of a refusal
-unfoldable pub status_of : Verdict → ℕ
-status_of Sound = 0
-status_of (Refused why) = number_of why
+unfoldable pub status_of : Result (Unit {0}) Refusal → ℕ
+status_of (Ok u) = 0
+status_of (Err why) = number_of why

@@ -21,12 +21,10 @@ pub fn put_entries(table: Table, out: &mut [usize])
     requires { 1004 ≤ length out.old }
     ensures { out.new ≡ all_entries table out.old }
 {
-    let mut k: usize = 0;
-    while k < 251 {
+    for k in 0..251 {
         let age = table.age[k];
         let entry = table.entries[k];
         put_entry(age, entry, k * 4, out);
-        k += 1;
     }
 }
 

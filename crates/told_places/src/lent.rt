@@ -2,6 +2,7 @@
 ghost use Rattle.std.specs.Prelude.{◌≡◌, ◌≤◌, ◌<◌, length, replicate};
 ghost use Rattle.told_places.specs.Lent.{at_most, age_at, entry_at, first_of, table_of};
 
+use std::array;
 use table::{Entry, Table};
 
 // A number, or the most that its place holds.
@@ -38,33 +39,12 @@ fn entry_at(counts: &[usize], k: usize) -> Entry
     }
 }
 
-// Places for all numbers.
-fn no_ages() -> [u8; 251]
-    ensures { result ≡ replicate 251 0 }
-{
-    [0u8; 251]
-}
-
-// Places for all entries.
-fn no_entries() -> [Entry; 251]
-    ensures { result ≡ replicate 251 (record { x = 0; y = 0; px = 0 }) }
-{
-    [Entry { x: 0, y: 0, px: 0 }; 251]
-}
-
 // All numbers, by age.
 fn ages_of(counts: &[usize]) -> [u8; 251]
     requires { 1005 ≤ length counts.now }
     ensures { result ≡ first_of (age_at counts.now) 251 }
 {
-    let mut ages = no_ages();
-    let mut k: usize = 0;
-    while k < 251 {
-        let age = age_at(counts, k);
-        ages[k] = age;
-        k += 1;
-    }
-    ages
+    array::from_fn(|k| age_at(counts, k))
 }
 
 // All entries.
@@ -72,14 +52,7 @@ fn entries_of(counts: &[usize]) -> [Entry; 251]
     requires { 1005 ≤ length counts.now }
     ensures { result ≡ first_of (entry_at counts.now) 251 }
 {
-    let mut entries = no_entries();
-    let mut k: usize = 0;
-    while k < 251 {
-        let entry = entry_at(counts, k);
-        entries[k] = entry;
-        k += 1;
-    }
-    entries
+    array::from_fn(|k| entry_at(counts, k))
 }
 
 // The table.

@@ -1,5 +1,5 @@
 // What several calls tell, into the places of lent slices: a point, a perspective's coefficients, a region table; and the number of a verdict.
-// And a region table out of them.
+// And a perspective and a region table out of them.
 #![tactic(auto)]
 
 pub mod coefficients;
@@ -10,15 +10,14 @@ pub mod spots;
 ghost use Rattle.std.specs.Prelude.{◌≡◌};
 ghost use Rattle.told_places.specs.Values.{status_of};
 
-use picture::Verdict;
-use refusals::number_of;
+use refusals::Refusal;
 
 // 0, or the number of a refusal.
-pub fn status_of(verdict: Verdict) -> u8
+pub fn status_of(verdict: Result<(), Refusal>) -> u8
     ensures { result ≡ status_of verdict }
 {
     match verdict {
-        Verdict::Sound => 0,
-        Verdict::Refused(why) => number_of(why),
+        Ok(()) => 0,
+        Err(why) => u8::from(why),
     }
 }

@@ -1,40 +1,25 @@
 -- What the calls on numbers and perspectives answer, in terms of the crates that they lead to. Assumes nothing.
-use Rattle.std.specs.Prelude.{ℕ, List, [], ◌∷◌, ℤ, Float, length, get_or}
-use Rattle.std.specs.Float.{nan}
+use Rattle.std.specs.Prelude.{ℕ, List, [], ◌∷◌, ℤ, Float, length, Option, Some, None}
+use Rattle.geometry.specs.declared.Perspective.{Perspective}
 use Rattle.refusals.specs.Finding.{Finding, found, refused, refused_by}
 use Rattle.refusals.specs.First.{first}
 use Rattle.refusals.specs.declared.Refusal.TheVariants as refusal
 use Rattle.points.specs.declared.Point.{Point}
 use Rattle.rounding.specs.Nearest.{nearest_of}
-use Rattle.rounding.specs.declared.Whole.{Whole}
-use Rattle.rounding.specs.declared.Whole.TheVariants.{At, Off}
 use Rattle.geometry.specs.Create.{sight_of}
 use Rattle.geometry.specs.Map.{mapped}
 use Rattle.geometry.specs.Unmap.{unmapped}
-use Rattle.geometry.specs.declared.Perspective.{Perspective}
 use Rattle.geometry.specs.declared.GridPoint.{GridPoint}
 use Rattle.geometry.specs.declared.Sight.{Sight}
 use Rattle.geometry.specs.declared.Sight.TheVariants.{Made, Flat}
 use Rattle.told.specs.Answer.{Values, these, nothing, fewer_than}
 use Rattle.told.specs.Points.{point_at}
-
--- a perspective that is lent as its eight coefficients
-unfoldable pub perspective_at : List Float → Perspective
-perspective_at cs = record {
-  c0 = get_or cs 0 nan;
-  c1 = get_or cs 1 nan;
-  c2 = get_or cs 2 nan;
-  c3 = get_or cs 3 nan;
-  c4 = get_or cs 4 nan;
-  c5 = get_or cs 5 nan;
-  c6 = get_or cs 6 nan;
-  c7 = get_or cs 7 nan;
-}
+use Rattle.told_places.specs.Lent.{perspective_at}
 
 -- a whole number, or 13
-unfoldable pub whole_values : Whole → Finding (Values ℤ)
-whole_values (At z) = found (these (z ∷ []))
-whole_values Off = refused_by refusal.Unplaced
+unfoldable pub whole_values : Option ℤ → Finding (Values ℤ)
+whole_values (Some z) = found (these (z ∷ []))
+whole_values None = refused_by refusal.Unplaced
 
 -- x and y, or a refusal's number
 unfoldable pub place_values : Finding Point → Finding (Values ℤ)
@@ -62,9 +47,9 @@ create_answer ns w h room =
 
 -- where (u, v) lies under a perspective
 unfoldable pub map_answer : List Float → Float → Float → ℕ → Finding (Values ℤ)
-map_answer cs u v room = first (fewer_than 8 (length cs) ∷ fewer_than 2 room ∷ []) (place_values (mapped (perspective_at cs) u v))
+map_answer cs u v room = first (fewer_than 8 (length cs) ∷ fewer_than 2 room ∷ []) (place_values (mapped (perspective_at cs 0) u v))
 
 -- what lies at a point under a perspective
 unfoldable pub unmap_answer : List Float → ℤ → ℤ → ℕ → Finding (Values Float)
 unmap_answer cs x y room =
-    first (fewer_than 8 (length cs) ∷ fewer_than 2 room ∷ []) (grid_values (unmapped (perspective_at cs) (record { x = x; y = y })))
+    first (fewer_than 8 (length cs) ∷ fewer_than 2 room ∷ []) (grid_values (unmapped (perspective_at cs 0) (record { x = x; y = y })))

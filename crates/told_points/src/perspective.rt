@@ -3,41 +3,19 @@ ghost use Rattle.std.specs.Prelude.{◌≡◌, ◌≤◌, length};
 ghost use Rattle.geometry.specs.Map.{meaning};
 ghost use Rattle.geometry.specs.declared.Sight.TheVariants.{Made};
 ghost use Rattle.told.specs.Answer.{Told};
-ghost use Rattle.told_points.specs.Answers.{perspective_at, sight_values, place_values, create_answer, map_answer, unmap_answer};
+ghost use Rattle.told_points.specs.Answers.{sight_values, place_values, create_answer, map_answer, unmap_answer};
 
-use geometry::{Perspective, Sight, Spot};
+use geometry::{Perspective, Sight};
 use points::Point;
 use told::{place, put};
-
-fn perspective_at(c: &[f64]) -> Perspective
-    requires { 8 ≤ length c.now }
-    ensures { result ≡ perspective_at c.now }
-{
-    Perspective {
-        c0: c[0],
-        c1: c[1],
-        c2: c[2],
-        c3: c[3],
-        c4: c[4],
-        c5: c[5],
-        c6: c[6],
-        c7: c[7],
-    }
-}
+use told_places::coefficients::{perspective_at, put_floats};
 
 // A perspective's eight coefficients.
 fn coefficients(p: Perspective, out: &mut [f64]) -> u8
     requires { 8 ≤ length out.old }
     ensures { Told (sight_values (Made p)) out.old result out.new }
 {
-    out[0] = p.c0;
-    out[1] = p.c1;
-    out[2] = p.c2;
-    out[3] = p.c3;
-    out[4] = p.c4;
-    out[5] = p.c5;
-    out[6] = p.c6;
-    out[7] = p.c7;
+    put_floats(p, 0, out);
     0
 }
 
@@ -51,13 +29,13 @@ fn put_sight(s: Sight, out: &mut [f64]) -> u8
     }
 }
 
-fn put_spot(s: Spot, out: &mut [i32]) -> u8
+fn put_spot(s: Option<Point>, out: &mut [i32]) -> u8
     requires { 2 ≤ length out.old }
     ensures { Told (place_values (meaning s)) out.old result out.new }
 {
     match s {
-        Spot::Placed(p) => put::numbers(p.x, p.y, out),
-        Spot::Unplaced => 13,
+        Some(p) => put::numbers(p.x, p.y, out),
+        None => 13,
     }
 }
 
@@ -88,7 +66,7 @@ pub fn map(c: &[f64], u: f64, v: f64, out: &mut [i32]) -> u8
     if out.len() < 2 {
         return 3;
     }
-    put_spot(perspective_at(c).map(u, v), out)
+    put_spot(perspective_at(c, 0).map(u, v), out)
 }
 
 // The grid's point that lies at (x, y).
@@ -101,6 +79,6 @@ pub fn unmap(c: &[f64], x: i32, y: i32, out: &mut [f64]) -> u8
     if out.len() < 2 {
         return 3;
     }
-    let g = perspective_at(c).unmap(Point { x: x, y: y });
+    let g = perspective_at(c, 0).unmap(Point { x: x, y: y });
     put::floats(g.u, g.v, out)
 }

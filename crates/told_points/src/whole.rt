@@ -3,16 +3,15 @@ ghost use Rattle.std.specs.Prelude.{◌≤◌, length};
 ghost use Rattle.told.specs.Answer.{Told};
 ghost use Rattle.told_points.specs.Answers.{whole_values, round_answer};
 
-use rounding::Whole;
 use told::put;
 
-fn put_whole(n: Whole, out: &mut [i32]) -> u8
+fn put_whole(n: Option<i32>, out: &mut [i32]) -> u8
     requires { 1 ≤ length out.old }
     ensures { Told (whole_values n) out.old result out.new }
 {
     match n {
-        Whole::At(z) => put::number(z, out),
-        Whole::Off => 13,
+        Some(z) => put::number(z, out),
+        None => 13,
     }
 }
 

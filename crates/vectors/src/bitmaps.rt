@@ -1,14 +1,15 @@
 // Prepare and accept: a picture, and the number of the refusal, or 0; then the sums of what prepare leaves.
 use crate::checks::{Check, expect, expect_picture, expect_refusal, has_ended, start};
 use crate::pictures::{Drawn, draw};
-use picture::{Verdict, accept};
+use picture::accept;
 use prepare::prepare;
+use refusals::Refusal;
 
 // The next word is to say a verdict: 0, or the number of a refusal.
-pub fn expect_verdict(text: &[u8], check: Check, verdict: Verdict) -> Check {
+pub fn expect_verdict(text: &[u8], check: Check, verdict: Result<(), Refusal>) -> Check {
     match verdict {
-        Verdict::Sound => expect(text, check, 0),
-        Verdict::Refused(why) => expect_refusal(text, check, why),
+        Ok(()) => expect(text, check, 0),
+        Err(why) => expect_refusal(text, check, why),
     }
 }
 

@@ -6,13 +6,14 @@ use crate::stones::read_perspective;
 use crate::words::read_word;
 use cells::{Cell, read_cell};
 use geometry::Perspective;
+use refusals::Refusal;
 
 // The next word is to say what a cell is.
-fn expect_cell(text: &[u8], check: Check, cell: Cell) -> Check {
+fn expect_cell(text: &[u8], check: Check, cell: Result<Cell, Refusal>) -> Check {
     match cell {
-        Cell::Light => expect(text, check, 256),
-        Cell::Dark => expect(text, check, 257),
-        Cell::Refused(why) => expect_refusal(text, check, why),
+        Ok(Cell::Light) => expect(text, check, 256),
+        Ok(Cell::Dark) => expect(text, check, 257),
+        Err(why) => expect_refusal(text, check, why),
     }
 }
 
@@ -41,10 +42,8 @@ fn read_next(
 fn read_all(text: &[u8], at: usize, pic: &[u8], drawn: Drawn, size: u8, c: Perspective) -> bool {
     let count = read_word(text, at);
     let mut now = start(count.next);
-    let mut left = count.value;
-    while 0 < left {
+    for _ in 0..count.value {
         now = read_next(text, now, pic, drawn, size, c);
-        left -= 1;
     }
     has_ended(text, now)
 }
@@ -55,7 +54,7 @@ pub fn same_cells(text: &[u8], pic: &mut [u8]) -> bool {
     let n = drawn.n;
     let size = read_word(text, drawn.next);
     let seen = read_perspective(text, size.next);
-    let c = seen.c;
+    let c = seen.value;
     let cells = (size.value % 256) as u8;
     if n > pic.len() {
         return false;

@@ -5,10 +5,11 @@ ghost use Rattle.std.specs.Float.Ieee.{to_bits};
 ghost use Rattle.vectors.specs.Checks.{expected, summed_up, ended};
 
 use crate::sums::sum;
-use crate::words::{bits_of, offset, read_word};
+use crate::words::{offset, read_word};
 use geometry::Perspective;
 use points::Point;
-use refusals::{Refusal, number_of};
+use refusals::Refusal;
+use std::num::f64_to_bits_with_nan;
 
 // How far a case is compared, and whether all was the same so far.
 #[derive(Clone, Copy)]
@@ -45,7 +46,7 @@ pub fn expect(text: &[u8], check: Check, value: u64) -> Check
 fn expect_float(text: &[u8], check: Check, x: f64) -> Check
     ensures { result ≡ expected text.now check (to_bits binary64 x) }
 {
-    expect(text, check, bits_of(x))
+    expect(text, check, f64_to_bits_with_nan(x))
 }
 
 // The next words are to say the coordinates of a point.
@@ -68,7 +69,7 @@ pub fn expect_perspective(text: &[u8], check: Check, c: Perspective) -> Check {
 
 // The next word is to say the number of a refusal.
 pub fn expect_refusal(text: &[u8], check: Check, why: Refusal) -> Check {
-    let number = number_of(why);
+    let number = u8::from(why);
     expect(text, check, number as u64)
 }
 

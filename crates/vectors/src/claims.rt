@@ -2,8 +2,9 @@
 use crate::checks::{Check, expect, expect_picture, expect_refusal, has_ended, start};
 use crate::pictures::{Drawn, draw};
 use crate::words::read_word;
-use claim::{Claimed, claim};
+use claim::claim;
 use fill::paint::Counts;
+use refusals::Refusal;
 
 // The next words are to say three counts.
 fn expect_counts(text: &[u8], check: Check, counts: Counts) -> Check {
@@ -14,10 +15,10 @@ fn expect_counts(text: &[u8], check: Check, counts: Counts) -> Check {
 }
 
 // The next words are to say what a claim answers.
-fn expect_claimed(text: &[u8], check: Check, answer: Claimed) -> Check {
+fn expect_claimed(text: &[u8], check: Check, answer: Result<Counts, Refusal>) -> Check {
     match answer {
-        Claimed::Done(counts) => expect_counts(text, check, counts),
-        Claimed::Refused(why) => expect_refusal(text, check, why),
+        Ok(counts) => expect_counts(text, check, counts),
+        Err(why) => expect_refusal(text, check, why),
     }
 }
 

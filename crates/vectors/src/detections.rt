@@ -1,15 +1,15 @@
 // Whole pictures: a picture, a table, the entries of the stack and the bytes of the scratch; then the number of the refusal, or 0, the number of stones, the
 // number of grids, and for each its size, its coefficients and its bounds; then the sums of the picture, and the table.
-use crate::bitmaps::expect_verdict;
 use crate::checks::{
-    Check, expect, expect_perspective, expect_picture, expect_point, has_ended, start,
+    Check, expect, expect_perspective, expect_picture, expect_point, expect_refusal, has_ended,
+    start,
 };
 use crate::pictures::{Drawn, draw};
 use crate::tables::{expect_table, read_table};
 use crate::words::read_word;
 use bounds::Grid;
 use detect::{Findings, detect};
-use picture::Verdict;
+use refusals::Refusal;
 use table::Table;
 
 // The next words are to say a grid: its size, its coefficients and its bounds.
@@ -30,28 +30,20 @@ fn expect_grid(text: &[u8], check: Check, grid: Grid) -> Check {
 // The next words are to say how many grids there are, and each.
 fn expect_grids(text: &[u8], check: Check, grids: [Grid; 31], n: usize) -> Check {
     let mut now = expect(text, check, n as u64);
-    let mut k = 0;
-    while k < 31 {
-        if k >= n {
-            return now;
-        }
-        let grid = grids[k];
-        now = expect_grid(text, now, grid);
-        k += 1;
+    for grid in grids.iter().take(n) {
+        now = expect_grid(text, now, *grid);
     }
     now
 }
 
 // The next words are to say what detect tells.
-fn expect_findings(text: &[u8], check: Check, findings: Findings) -> Check {
-    let verdict = findings.verdict;
-    let grids = findings.grids;
-    let told = expect_verdict(text, check, verdict);
-    match verdict {
-        Verdict::Refused(_) => told,
-        Verdict::Sound => {
-            let stones = expect(text, told, findings.stones as u64);
-            expect_grids(text, stones, grids, findings.n)
+fn expect_findings(text: &[u8], check: Check, findings: Result<Findings, Refusal>) -> Check {
+    match findings {
+        Err(why) => expect_refusal(text, check, why),
+        Ok(found) => {
+            let told = expect(text, check, 0);
+            let stones = expect(text, told, found.stones as u64);
+            expect_grids(text, stones, found.grids, found.n)
         }
     }
 }
@@ -79,7 +71,7 @@ pub fn same_detect(text: &[u8], pic: &mut [u8], stack: &mut [u32], scratch: &mut
     let drawn = draw(text, 0, pic);
     let n = drawn.n;
     let listed = read_table(text, drawn.next);
-    let t = listed.table;
+    let t = listed.value;
     let entries = read_word(text, listed.next);
     let kept = read_word(text, entries.next);
     let lent = entries.value as usize;

@@ -8,7 +8,8 @@ use crate::stones::read_group;
 use crate::tables::{expect_table, read_table};
 use crate::words::read_word;
 use fit::fit_group;
-use grids::{Fit, SkewedGridLocation};
+use grids::SkewedGridLocation;
+use refusals::Refusal;
 use table::Table;
 
 // The next words are to say a grid: its size and its coefficients.
@@ -20,11 +21,15 @@ fn expect_grid(text: &[u8], check: Check, grid: SkewedGridLocation) -> Check {
 }
 
 // The next words are to say what a group comes to.
-fn expect_fit(text: &[u8], check: Check, fit: Fit) -> Check {
+fn expect_fit(
+    text: &[u8],
+    check: Check,
+    fit: Result<Option<SkewedGridLocation>, Refusal>,
+) -> Check {
     match fit {
-        Fit::Grid(grid) => expect_grid(text, check, grid),
-        Fit::NoGrid => expect(text, check, 256),
-        Fit::Refused(why) => expect_refusal(text, check, why),
+        Ok(Some(grid)) => expect_grid(text, check, grid),
+        Ok(None) => expect(text, check, 256),
+        Err(why) => expect_refusal(text, check, why),
     }
 }
 
@@ -39,7 +44,7 @@ fn fit_drawn(
     scratch: &mut [u8],
 ) -> bool {
     let here = read_group(text, at);
-    let group = here.group;
+    let group = here.value;
     let fitted = fit_group(pic, drawn.width, drawn.height, stack, scratch, t, group);
     let fit = fitted.fit;
     let left = fitted.table;
@@ -53,7 +58,7 @@ pub fn same_fit(text: &[u8], pic: &mut [u8], stack: &mut [u32], scratch: &mut [u
     let drawn = draw(text, 0, pic);
     let n = drawn.n;
     let listed = read_table(text, drawn.next);
-    let t = listed.table;
+    let t = listed.value;
     let entries = read_word(text, listed.next);
     let kept = read_word(text, entries.next);
     let lent = entries.value as usize;

@@ -6,6 +6,7 @@ use crate::pictures::{Drawn, draw};
 use crate::tables::{expect_table, read_table};
 use crate::words::read_word;
 use picture::PixelColor;
+use refusals::Refusal;
 use regions::{ColoredRegion, Region, look_up};
 use table::Table;
 
@@ -39,11 +40,11 @@ fn expect_region(text: &[u8], check: Check, region: Region) -> Check {
 }
 
 // The next words are to say what a lookup finds.
-fn expect_found(text: &[u8], check: Check, found: ColoredRegion) -> Check {
+fn expect_found(text: &[u8], check: Check, found: Result<ColoredRegion, Refusal>) -> Check {
     match found {
-        ColoredRegion::Claimed(c) => expect(text, check, colour_word(c)),
-        ColoredRegion::Unclaimed(region) => expect_region(text, check, region),
-        ColoredRegion::Refused(why) => expect_refusal(text, check, why),
+        Ok(ColoredRegion::Claimed(c)) => expect(text, check, colour_word(c)),
+        Ok(ColoredRegion::Unclaimed(region)) => expect_region(text, check, region),
+        Err(why) => expect_refusal(text, check, why),
     }
 }
 
@@ -123,10 +124,8 @@ fn call_all(
     stack: &mut [u32],
 ) -> Run {
     let mut run = first;
-    let mut left = count;
-    while 0 < left {
+    for _ in 0..count {
         run = call_next(text, run, pic, width, height, stack);
-        left -= 1;
     }
     run
 }
@@ -165,7 +164,7 @@ pub fn same_run(text: &[u8], pic: &mut [u8], stack: &mut [u32]) -> bool {
     let drawn = draw(text, 0, pic);
     let n = drawn.n;
     let listed = read_table(text, drawn.next);
-    let t = listed.table;
+    let t = listed.value;
     let entries = read_word(text, listed.next);
     let lent = entries.value as usize;
     if n > pic.len() {

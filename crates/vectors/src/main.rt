@@ -18,17 +18,15 @@ mod tables;
 mod tally;
 mod words;
 
-ghost use Rattle.std.specs.Counts.{IsPrefixLen};
-
+use inputs::read_full;
 use std::io;
 use std::io::Read;
-use tally::Tally;
+use tally::{Kind, Tally};
 
-// A case's kind, and how many bytes it has; none at the end of the input.
+// A case's kind, and how many bytes it has.
 #[derive(Clone, Copy)]
 struct Head {
-    there: bool,
-    kind: usize,
+    kind: Kind,
     length: usize,
 }
 
@@ -47,60 +45,34 @@ fn stack_room() -> [u32; 640000] {
     [0u32; 640000]
 }
 
-// The next bytes, at the start of the buffer; none where the input has ended or the read failed.
-fn read_some<R: Read>(input: &mut R, buf: &mut [u8]) -> usize
-    ensures { IsPrefixLen result buf.new }
-{
-    input.read(buf).unwrap_or(0)
-}
-
-// Reads until the buffer is full, the input ends or a read fails, and answers how many bytes now stand at its start.
-fn read_full<R: Read>(input: &mut R, buf: &mut [u8]) -> usize
-    ensures { IsPrefixLen result buf.new }
-{
-    let mut done = 0;
-    while done < buf.len() {
-        let more = read_some(input, &mut buf[done..]);
-        if more == 0 {
-            return done;
-        }
-        done += more;
-    }
-    done
-}
-
-// What the next case starts with.
-fn read_head<R: Read>(input: &mut R) -> Head {
+// What the next case starts with; none at the end of the input.
+fn read_head<R: Read>(input: &mut R) -> Option<Head> {
     let mut head = [0u8; 6];
-    let got = read_full(input, &mut head);
-    let kind = tally::kind_of(head[0]);
+    if read_full(input, &mut head) < 6 {
+        return None;
+    }
+    let kind = Kind::from(head[0]);
     head[0] = b' ';
     let length = words::read_word(&head, 0);
-    Head {
-        there: got == 6,
+    Some(Head {
         kind: kind,
         length: length.value as usize,
-    }
+    })
 }
 
 // Whether the case answers as recorded.
-fn is_same(
-    kind: usize,
-    text: &[u8],
-    pic: &mut [u8],
-    stack: &mut [u32],
-    scratch: &mut [u8],
-) -> bool {
+fn is_same(kind: Kind, text: &[u8], pic: &mut [u8], stack: &mut [u32], scratch: &mut [u8]) -> bool {
     match kind {
-        0 | 1 => bitmaps::same_prepare(text, pic),
-        2 => bitmaps::same_accept(text, pic),
-        3 => claims::same_claim(text, pic, stack),
-        4 | 5 => lookups::same_run(text, pic, stack),
-        6 => ranks::same_rank(text),
-        7 => fits::same_fit(text, pic, stack, scratch),
-        8 => cells_read::same_cells(text, pic),
-        9 | 10 | 11 | 12 | 13 => detections::same_detect(text, pic, stack, scratch),
-        _ => false,
+        Kind::Prepare | Kind::PrepareNarrow => bitmaps::same_prepare(text, pic),
+        Kind::Accept => bitmaps::same_accept(text, pic),
+        Kind::Claim => claims::same_claim(text, pic, stack),
+        Kind::Run | Kind::FullRun => lookups::same_run(text, pic, stack),
+        Kind::Rank => ranks::same_rank(text),
+        Kind::Fit => fits::same_fit(text, pic, stack, scratch),
+        Kind::Cells => cells_read::same_cells(text, pic),
+        Kind::OneGrid | Kind::SeveralGrids | Kind::NoGrid | Kind::NineByNine | Kind::Refused =>
+            detections::same_detect(text, pic, stack, scratch),
+        Kind::Unknown => false,
     }
 }
 
@@ -130,15 +102,12 @@ fn replay_all<R: Read>(
     scratch: &mut [u8],
 ) -> Tally {
     let mut now = tally::none();
-    let mut left: u32 = 1000000;
-    while 0 < left {
-        let head = read_head(input);
-        if !head.there {
+    for _ in 0..1000000u32 {
+        let Some(head) = read_head(input) else {
             return now;
-        }
+        };
         let same = replay(input, head, text, pic, stack, scratch);
         now = tally::counted(now, head.kind, same);
-        left -= 1;
     }
     now
 }

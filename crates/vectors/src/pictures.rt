@@ -33,11 +33,9 @@ pub fn draw_bits(text: &[u8], pic: &mut [u8])
     requires { length pic.old ≤ 640000 }
     ensures { Shows (bit_at text.now) (length pic.old) pic.new }
 {
-    let mut i = 0;
-    while i < pic.len() {
+    for i in 0..pic.len() {
         let digit = digit_at(text, i / 4);
         pic[i] = bit_of(digit, i % 4);
-        i += 1;
     }
 }
 
@@ -46,12 +44,10 @@ pub fn draw_bytes(text: &[u8], pic: &mut [u8])
     requires { length pic.old ≤ 640000 }
     ensures { Shows (byte_at text.now) (length pic.old) pic.new }
 {
-    let mut i = 0;
-    while i < pic.len() {
+    for i in 0..pic.len() {
         let high = digit_at(text, i * 2);
         let low = digit_at(text, i * 2 + 1);
         pic[i] = byte_of(high, low);
-        i += 1;
     }
 }
 

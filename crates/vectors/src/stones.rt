@@ -1,115 +1,70 @@
 // Points, perspectives and stones of a recorded case.
-use crate::words::{float_of, read_word, signed};
+use crate::words::{Here, read_word, signed};
 use capstones::{CapStone, blank};
 use geometry::Perspective;
 use groups::CapStoneGroup;
 use points::Point;
-
-// A point, and where it ends.
-#[derive(Clone, Copy)]
-pub struct PointHere {
-    pub point: Point,
-    pub next: usize,
-}
-
-// A float, and where it ends.
-#[derive(Clone, Copy)]
-struct FloatHere {
-    x: f64,
-    next: usize,
-}
-
-// Four floats, and where they end.
-#[derive(Clone, Copy)]
-struct FourHere {
-    a: f64,
-    b: f64,
-    c: f64,
-    d: f64,
-    next: usize,
-}
-
-// A perspective, and where it ends.
-#[derive(Clone, Copy)]
-pub struct SightHere {
-    pub c: Perspective,
-    pub next: usize,
-}
-
-// A stone, and where it ends.
-#[derive(Clone, Copy)]
-pub struct StoneHere {
-    pub stone: CapStone,
-    pub next: usize,
-}
-
-// A group of stones, and where it ends.
-#[derive(Clone, Copy)]
-pub struct GroupHere {
-    pub group: CapStoneGroup,
-    pub next: usize,
-}
+use std::num::f64_from_bits_with_nan;
 
 // The point that stands here.
-pub fn read_point(text: &[u8], at: usize) -> PointHere {
+pub fn read_point(text: &[u8], at: usize) -> Here<Point> {
     let x = read_word(text, at);
     let y = read_word(text, x.next);
     let point = Point {
         x: signed(x.value),
         y: signed(y.value),
     };
-    PointHere {
-        point: point,
+    Here {
+        value: point,
         next: y.next,
     }
 }
 
 // The float that stands here.
-fn read_float(text: &[u8], at: usize) -> FloatHere {
+fn read_float(text: &[u8], at: usize) -> Here<f64> {
     let bits = read_word(text, at);
-    FloatHere {
-        x: float_of(bits.value),
+    Here {
+        value: f64_from_bits_with_nan(bits.value),
         next: bits.next,
     }
 }
 
 // Four floats.
-fn read_four(text: &[u8], at: usize) -> FourHere {
+fn read_four(text: &[u8], at: usize) -> Here<[f64; 4]> {
     let a = read_float(text, at);
     let b = read_float(text, a.next);
     let c = read_float(text, b.next);
     let d = read_float(text, c.next);
-    FourHere {
-        a: a.x,
-        b: b.x,
-        c: c.x,
-        d: d.x,
+    Here {
+        value: [a.value, b.value, c.value, d.value],
         next: d.next,
     }
 }
 
 // The perspective that stands here.
-pub fn read_perspective(text: &[u8], at: usize) -> SightHere {
+pub fn read_perspective(text: &[u8], at: usize) -> Here<Perspective> {
     let low = read_four(text, at);
     let high = read_four(text, low.next);
+    let [c0, c1, c2, c3] = low.value;
+    let [c4, c5, c6, c7] = high.value;
     let c = Perspective {
-        c0: low.a,
-        c1: low.b,
-        c2: low.c,
-        c3: low.d,
-        c4: high.a,
-        c5: high.b,
-        c6: high.c,
-        c7: high.d,
+        c0: c0,
+        c1: c1,
+        c2: c2,
+        c3: c3,
+        c4: c4,
+        c5: c5,
+        c6: c6,
+        c7: c7,
     };
-    SightHere {
-        c: c,
+    Here {
+        value: c,
         next: high.next,
     }
 }
 
 // A stone to be fitted: its corners and its centre. Its perspective is not to matter.
-fn read_corners(text: &[u8], at: usize) -> StoneHere {
+fn read_corners(text: &[u8], at: usize) -> Here<CapStone> {
     let none = blank();
     let c = none.c;
     let p0 = read_point(text, at);
@@ -117,11 +72,11 @@ fn read_corners(text: &[u8], at: usize) -> StoneHere {
     let p2 = read_point(text, p1.next);
     let p3 = read_point(text, p2.next);
     let p4 = read_point(text, p3.next);
-    let corner0 = p0.point;
-    let corner1 = p1.point;
-    let corner2 = p2.point;
-    let corner3 = p3.point;
-    let center = p4.point;
+    let corner0 = p0.value;
+    let corner1 = p1.value;
+    let corner2 = p2.value;
+    let corner3 = p3.value;
+    let center = p4.value;
     let stone = CapStone {
         corner0: corner0,
         corner1: corner1,
@@ -130,38 +85,38 @@ fn read_corners(text: &[u8], at: usize) -> StoneHere {
         center: center,
         c: c,
     };
-    StoneHere {
-        stone: stone,
+    Here {
+        value: stone,
         next: p4.next,
     }
 }
 
 // Three stones to be fitted.
-pub fn read_group(text: &[u8], at: usize) -> GroupHere {
+pub fn read_group(text: &[u8], at: usize) -> Here<CapStoneGroup> {
     let a = read_corners(text, at);
     let b = read_corners(text, a.next);
     let c = read_corners(text, b.next);
-    let first = a.stone;
-    let second = b.stone;
-    let third = c.stone;
+    let first = a.value;
+    let second = b.value;
+    let third = c.value;
     let group = CapStoneGroup {
         first: first,
         second: second,
         third: third,
     };
-    GroupHere {
-        group: group,
+    Here {
+        value: group,
         next: c.next,
     }
 }
 
 // A stone to be ranked: its centre and its perspective. Its corners are not to matter.
-pub fn read_seen(text: &[u8], at: usize) -> StoneHere {
+pub fn read_seen(text: &[u8], at: usize) -> Here<CapStone> {
     let nowhere = Point { x: 0, y: 0 };
     let p = read_point(text, at);
     let seen = read_perspective(text, p.next);
-    let center = p.point;
-    let c = seen.c;
+    let center = p.value;
+    let c = seen.value;
     let stone = CapStone {
         corner0: nowhere,
         corner1: nowhere,
@@ -170,8 +125,8 @@ pub fn read_seen(text: &[u8], at: usize) -> StoneHere {
         center: center,
         c: c,
     };
-    StoneHere {
-        stone: stone,
+    Here {
+        value: stone,
         next: seen.next,
     }
 }

@@ -1,25 +1,17 @@
 // Region tables of a recorded case: the count, how many places are listed, and for each the number by age and the entry.
 use crate::checks::{Check, expect};
-use crate::words::read_word;
+use crate::words::{Here, read_word};
 use table::{Entry, Table, empty};
 
-// One place of a table, and where it ends.
+// One place of a table.
 #[derive(Clone, Copy)]
 struct Place {
     age: u8,
     entry: Entry,
-    next: usize,
-}
-
-// A table, and where it ends.
-#[derive(Clone, Copy)]
-pub struct Listed {
-    pub table: Table,
-    pub next: usize,
 }
 
 // The place that stands here.
-fn read_place(text: &[u8], at: usize) -> Place {
+fn read_place(text: &[u8], at: usize) -> Here<Place> {
     let age = read_word(text, at);
     let x = read_word(text, age.next);
     let y = read_word(text, x.next);
@@ -29,48 +21,32 @@ fn read_place(text: &[u8], at: usize) -> Place {
         y: (y.value % 65536) as u16,
         px: (px.value % 4294967296) as u32,
     };
-    Place {
+    let place = Place {
         age: (age.value % 256) as u8,
         entry: entry,
+    };
+    Here {
+        value: place,
         next: px.next,
     }
 }
 
-// The table with one place set; past the last place it stays.
-fn with_place(t: Table, k: usize, place: Place) -> Table {
-    if k >= 251 {
-        return t;
-    }
-    let mut set = t;
-    let entry = place.entry;
-    set.entries[k] = entry;
-    set.age[k] = place.age;
-    set
-}
-
 // The table that stands here.
-pub fn read_table(text: &[u8], at: usize) -> Listed {
+pub fn read_table(text: &[u8], at: usize) -> Here<Table> {
     let n = read_word(text, at);
     let listed = read_word(text, n.next);
     let mut set = empty();
     let mut next = listed.next;
-    let mut k = 0;
-    while k < 251 {
-        if k as u64 >= listed.value {
-            set.n = n.value as usize;
-            return Listed {
-                table: set,
-                next: next,
-            };
-        }
-        let place = read_place(text, next);
-        next = place.next;
-        set = with_place(set, k, place);
-        k += 1;
+    for k in 0..listed.value.min(251) as usize {
+        let here = read_place(text, next);
+        let place = here.value;
+        set.age[k] = place.age;
+        set.entries[k] = place.entry;
+        next = here.next;
     }
     set.n = n.value as usize;
-    Listed {
-        table: set,
+    Here {
+        value: set,
         next: next,
     }
 }
@@ -87,15 +63,8 @@ fn expect_place(text: &[u8], check: Check, age: u8, entry: Entry) -> Check {
 pub fn expect_table(text: &[u8], check: Check, t: Table) -> Check {
     let n = t.n;
     let mut now = expect(text, check, n as u64);
-    let mut k = 0;
-    while k < 251 {
-        if k >= n {
-            return now;
-        }
-        let age = t.age[k];
-        let entry = t.entries[k];
-        now = expect_place(text, now, age, entry);
-        k += 1;
+    for k in 0..n.min(251) {
+        now = expect_place(text, now, t.age[k], t.entries[k]);
     }
     now
 }

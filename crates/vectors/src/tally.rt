@@ -1,18 +1,103 @@
 // How many cases of each kind were compared, and how many differ.
-use std::io;
+use std::{fmt, io};
 
-// A count for each of 16 kinds.
+// The kinds of case, in the order in which they are written.
+#[derive(Clone, Copy, Debug, PartialEq, Eq)]
+pub enum Kind {
+    Prepare,
+    PrepareNarrow,
+    Accept,
+    Claim,
+    Run,
+    FullRun,
+    Rank,
+    Fit,
+    Cells,
+    OneGrid,
+    SeveralGrids,
+    NoGrid,
+    NineByNine,
+    Refused,
+    Unknown,
+}
+
+// The kind whose cases start with this letter.
+impl From<u8> for Kind {
+    fn from(letter: u8) -> Self {
+        match letter {
+            b'p' => Kind::Prepare,
+            b'w' => Kind::PrepareNarrow,
+            b'a' => Kind::Accept,
+            b'c' => Kind::Claim,
+            b'l' => Kind::Run,
+            b's' => Kind::FullRun,
+            b'r' => Kind::Rank,
+            b'f' => Kind::Fit,
+            b'b' => Kind::Cells,
+            b'g' => Kind::OneGrid,
+            b'm' => Kind::SeveralGrids,
+            b'n' => Kind::NoGrid,
+            b'e' => Kind::NineByNine,
+            b'x' => Kind::Refused,
+            _ => Kind::Unknown,
+        }
+    }
+}
+
+// What a kind is called.
+impl fmt::Display for Kind {
+    fn fmt<W: fmt::Write>(&self, f: &mut fmt::Formatter<W>) -> fmt::Result {
+        f.write_str(match self {
+            Kind::Prepare => "prepare",
+            Kind::PrepareNarrow => "prepare, width 15 or less",
+            Kind::Accept => "accept",
+            Kind::Claim => "claim",
+            Kind::Run => "run of lookups and claims",
+            Kind::FullRun => "run of lookups, 503 x 1",
+            Kind::Rank => "rank",
+            Kind::Fit => "fit",
+            Kind::Cells => "cells of a grid",
+            Kind::OneGrid => "detect, one grid",
+            Kind::SeveralGrids => "detect, several grids",
+            Kind::NoGrid => "detect, no grid",
+            Kind::NineByNine => "detect, 9 x 9",
+            Kind::Refused => "detect, refused",
+            Kind::Unknown => "of no kind",
+        })
+    }
+}
+
+// Every kind, in that order.
+const KINDS: [Kind; 15] = [
+    Kind::Prepare,
+    Kind::PrepareNarrow,
+    Kind::Accept,
+    Kind::Claim,
+    Kind::Run,
+    Kind::FullRun,
+    Kind::Rank,
+    Kind::Fit,
+    Kind::Cells,
+    Kind::OneGrid,
+    Kind::SeveralGrids,
+    Kind::NoGrid,
+    Kind::NineByNine,
+    Kind::Refused,
+    Kind::Unknown,
+];
+
+// A count for each kind.
 #[derive(Clone, Copy)]
 pub struct Tally {
-    pub compared: [u64; 16],
-    pub different: [u64; 16],
+    compared: [u64; 15],
+    different: [u64; 15],
 }
 
 // Nothing is compared yet.
 pub fn none() -> Tally {
     Tally {
-        compared: [0u64; 16],
-        different: [0u64; 16],
+        compared: [0u64; 15],
+        different: [0u64; 15],
     }
 }
 
@@ -25,77 +110,25 @@ fn one_more(n: u64) -> u64 {
 }
 
 // One case more of a kind.
-pub fn counted(tally: Tally, kind: usize, same: bool) -> Tally {
-    if kind >= 16 {
-        return tally;
-    }
+pub fn counted(tally: Tally, kind: Kind, same: bool) -> Tally {
     let mut more = tally;
-    more.compared[kind] = one_more(tally.compared[kind]);
+    let k = kind as usize;
+    more.compared[k] = one_more(tally.compared[k]);
     if same {
         return more;
     }
-    more.different[kind] = one_more(tally.different[kind]);
+    more.different[k] = one_more(tally.different[k]);
     more
-}
-
-// The kind whose cases start with this letter.
-pub fn kind_of(letter: u8) -> usize {
-    match letter {
-        b'p' => 0,
-        b'w' => 1,
-        b'a' => 2,
-        b'c' => 3,
-        b'l' => 4,
-        b's' => 5,
-        b'r' => 6,
-        b'f' => 7,
-        b'b' => 8,
-        b'g' => 9,
-        b'm' => 10,
-        b'n' => 11,
-        b'e' => 12,
-        b'x' => 13,
-        _ => 14,
-    }
-}
-
-// Writes what a kind is called.
-fn name(rt: &impl Print, kind: usize) -> io::Result<()> {
-    match kind {
-        0 => print!(rt; "prepare"),
-        1 => print!(rt; "prepare, width 15 or less"),
-        2 => print!(rt; "accept"),
-        3 => print!(rt; "claim"),
-        4 => print!(rt; "run of lookups and claims"),
-        5 => print!(rt; "run of lookups, 503 x 1"),
-        6 => print!(rt; "rank"),
-        7 => print!(rt; "fit"),
-        8 => print!(rt; "cells of a grid"),
-        9 => print!(rt; "detect, one grid"),
-        10 => print!(rt; "detect, several grids"),
-        11 => print!(rt; "detect, no grid"),
-        12 => print!(rt; "detect, 9 x 9"),
-        13 => print!(rt; "detect, refused"),
-        _ => print!(rt; "of no kind"),
-    }
-}
-
-// Writes one line.
-fn show(rt: &impl Print, kind: usize, compared: u64, different: u64) -> io::Result<()> {
-    name(rt, kind)?;
-    println!(rt; ": {compared} compared, {different} different")
 }
 
 // Writes a line for each kind that there are cases of.
 pub fn show_all(rt: &impl Print, tally: Tally) -> io::Result<()> {
-    let mut kind = 0;
-    while kind < 15 {
-        let compared = tally.compared[kind];
-        let different = tally.different[kind];
+    for kind in KINDS {
+        let compared = tally.compared[kind as usize];
+        let different = tally.different[kind as usize];
         if 0 < compared {
-            show(rt, kind, compared, different)?;
+            println!(rt; "{kind}: {compared} compared, {different} different")?;
         }
-        kind += 1;
     }
     Ok(())
 }

@@ -1,13 +1,18 @@
 // Words of a recorded case: a separator, then up to 16 hex digits in lower case.
 ghost use Rattle.std.specs.Prelude.{◌≡◌, ◌%◌, ◌≤◌, ◌<◌, ◌^◌, pos, ◌+ℤ◌, ◌-ℤ◌, length};
-ghost use Rattle.std.specs.Float.{binary64};
-ghost use Rattle.std.specs.Float.Ieee.{to_bits, of_bits};
 ghost use Rattle.vectors.specs.Words.{digit_of, digit_at, word_at};
 
 // What a word says, and where it ends.
 #[derive(Clone, Copy)]
 pub struct Word {
     pub value: u64,
+    pub next: usize,
+}
+
+// What is read from a case, and where it ends.
+#[derive(Clone, Copy)]
+pub struct Here<T> {
+    pub value: T,
     pub next: usize,
 }
 
@@ -48,18 +53,15 @@ pub fn read_word(text: &[u8], at: usize) -> Word
         return Word { value: 0, next: at };
     }
     let mut value: u64 = 0;
-    let mut next = at + 1;
-    let mut left: u64 = 16;
-    while 0 < left {
+    let end = at + 17;
+    for next in at + 1..end {
         let digit = digit_at(text, next);
         if digit > 15 {
             return Word { value, next };
         }
         value = value * 16 + digit;
-        next += 1;
-        left -= 1;
     }
-    Word { value, next }
+    Word { value, next: end }
 }
 
 // A whole number that is written with 2^31 added to it.
@@ -75,24 +77,4 @@ pub fn offset(z: i32) -> u64
     ensures { pos result ≡ z +ℤ pos (2 ^ 31) }
 {
     (z as i64 + 2147483648) as u64
-}
-
-// The float of these bits; any NaN's bits say the one NaN.
-pub fn float_of(bits: u64) -> f64
-    ensures { result ≡ of_bits binary64 bits }
-{
-    if bits % 9223372036854775808 > 9218868437227405312 {
-        return 0.0 / 0.0;
-    }
-    f64::from_bits(bits)
-}
-
-// The bits of a float. A NaN's are those of the quiet one that has nothing else set.
-pub fn bits_of(x: f64) -> u64
-    ensures { result ≡ to_bits binary64 x }
-{
-    if x != x {
-        return 0x7ff8_0000_0000_0000;
-    }
-    f64::to_bits(x)
 }

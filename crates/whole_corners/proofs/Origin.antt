@@ -1,4 +1,5 @@
 -- The perspective of whole corners takes the grid's origin to corner 0, with nothing lost: a map that is exact from end to end. Assumes nothing.
+use Rattle.std.specs.Prelude.{Some}
 use Prim.Native.Nat.{ℕ, zero, suc, ◌*◌, ◌^◌, ◌≤◌, ◌<◌, zero-le}
 use native.Mathlib.Nat.{mul-one, mul_comm, mul_assoc, mul-pos, zero-lt-suc}
 use native.Mathlib.Omega.{arith}
@@ -18,7 +19,6 @@ use Rattle.geometry.specs.declared.Sight.TheVariants.{Made}
 use Rattle.geometry.specs.Map.{mapped, map_x, map_y, map_den, placed}
 use Rattle.floats.specs.Float64.{◌⊕◌, ◌⊗◌, ◌⊘◌, float, one}
 use Rattle.rounding.specs.Nearest.{half_up, held, nearest_of}
-use Rattle.rounding.specs.declared.Whole.TheVariants.{At}
 use Rattle.rounding.proofs.Only.{half_up_only}
 use Rattle.exact.specs.Signed.{IsWhole, signed, quotient}
 use Rattle.exact.proofs.Value.{size_signed}
@@ -36,12 +36,12 @@ nearest_own n d h =
     let e : 2 * d * n ≡ 2 * (n * d) = mul_assoc 2 d n ∙ ap (λ (k : ℕ). 2 * k) (mul_comm d n) in
     sym (half_up_only (record { not_above = omega arith; not_below = omega arith }))
 
-held_own : (z : ℤ) → nat_abs z < 2 ^ 31 → held (signed z).negative (signed z).size ≡ At z
+held_own : (z : ℤ) → nat_abs z < 2 ^ 31 → held (signed z).negative (signed z).size ≡ Some z
 unfolding held
 held_own (pos n) h = rw (lt-ltb n (2 ^ 31) h)
 held_own (negsuc n) h = rw (le-leb (suc n) (2 ^ 31) (omega arith))
 
-nearest_whole : {x : Float} (z : ℤ) → IsWhole x (signed z) → nat_abs z < 2 ^ 31 → nearest_of x ≡ At z
+nearest_whole : {x : Float} (z : ℤ) → IsWhole x (signed z) → nat_abs z < 2 ^ 31 → nearest_of x ≡ Some z
 unfolding nearest_of
 nearest_whole {x = nan} z p h = absurd p.exact
 nearest_whole {x = inf s} z p h = absurd p.exact
@@ -64,7 +64,7 @@ unfolding Ieee.of_int
 one_is = refl
 
 coordinate : (a b c d : Float) → T (finite a) → T (finite b) → T (finite c) → T (finite d) → (z : ℤ) → nat_abs z ≤ farthest
-    → nearest_of ((a ⊗ origin ⊕ b ⊗ origin ⊕ float z) ⊘ (c ⊗ origin ⊕ d ⊗ origin ⊕ one)) ≡ At z
+    → nearest_of ((a ⊗ origin ⊕ b ⊗ origin ⊕ float z) ⊘ (c ⊗ origin ⊕ d ⊗ origin ⊕ one)) ≡ Some z
 coordinate a b c d fa fb fc fd z h =
     let over : (a ⊗ origin ⊕ b ⊗ origin ⊕ float z) ⊘ (c ⊗ origin ⊕ d ⊗ origin ⊕ one) ≡ quotient (signed z) 1 =
     whole_over 1 (left_over a b fa fb z (omega arith)) (rw one_is at (left_over c d fc fd (pos 1) (lit≤ tt))) (zero-lt-suc 0) refl in

@@ -2,26 +2,26 @@
 use Rattle.bounds.specs.Bounds.{with_bounds}
 use Rattle.bounds.proofs.with_bounds.Goals as goal
 
-pub returns-in-Placed-b3 : goal.returns-in-Placed-b3
+pub returns-in_err-b0 : goal.returns-in_err-b0
 unfolding with_bounds
-returns-in-Placed-b3 c =
-    rw (c.in-Placed.is, c.in-Placed-b1.is, c.in-Placed-b2.is, c.in-Placed-b3.is)
+returns-in_err-b0 c = rw (c.from_residual.ensures, c.in_err-b0.was)
 
-pub returns-in-Unplaced-b3 : goal.returns-in-Unplaced-b3
+pub returns-in_err-b1 : goal.returns-in_err-b1
 unfolding with_bounds
-returns-in-Unplaced-b3 c =
-    rw (c.in-Placed.is, c.in-Placed-b1.is, c.in-Placed-b2.is, c.in-Unplaced-b3.is)
+returns-in_err-b1 c =
+    rw (c.from_residual-in_err-b1.ensures, c.in_ok-b0.was, c.in_err-b1.was)
 
-pub returns-in-Unplaced-b2 : goal.returns-in-Unplaced-b2
+pub returns-in_err-b2 : goal.returns-in_err-b2
 unfolding with_bounds
-returns-in-Unplaced-b2 c =
-    rw (c.in-Placed.is, c.in-Placed-b1.is, c.in-Unplaced-b2.is)
+returns-in_err-b2 c =
+    rw (c.from_residual-in_err-b2.ensures, c.in_ok-b0.was, c.in_ok-b1.was, c.in_err-b2.was)
 
-pub returns-in-Unplaced-b1 : goal.returns-in-Unplaced-b1
+pub returns-in_err-b3 : goal.returns-in_err-b3
 unfolding with_bounds
-returns-in-Unplaced-b1 c =
-    rw (c.in-Placed.is, c.in-Unplaced-b1.is)
+returns-in_err-b3 c =
+    rw (c.from_residual-in_err-b3.ensures, c.in_ok-b0.was, c.in_ok-b1.was, c.in_ok-b2.was, c.in_err-b3.was)
 
-pub returns-in-Unplaced : goal.returns-in-Unplaced
+pub returns : goal.returns
 unfolding with_bounds
-returns-in-Unplaced c = rw c.in-Unplaced.is
+returns c =
+    rw (c.in_ok-b0.was, c.in_ok-b1.was, c.in_ok-b2.was, c.in_ok-b3.was)

@@ -2,14 +2,14 @@
 use Rattle.exports_cells.specs.Tells.{cell_number}
 use Rattle.exports_cells.proofs.number_of_cell.Goals as goal
 
-pub returns-in-Dark : goal.returns-in-Dark
+pub returns-in-Ok-Dark : goal.returns-in-Ok-Dark
 unfolding cell_number
-returns-in-Dark c = rw c.in-Dark.is
+returns-in-Ok-Dark c = rw (c.in-Ok-Dark.is, (rw c.in-Ok-Dark.is at c.in-Ok-Dark.field-0-is))
 
-pub returns-in-Light : goal.returns-in-Light
+pub returns-in-Ok-Light : goal.returns-in-Ok-Light
 unfolding cell_number
-returns-in-Light c = rw c.in-Light.is
+returns-in-Ok-Light c = rw (c.in-Ok-Light.is, (rw c.in-Ok-Light.is at c.in-Ok-Light.field-0-is))
 
-pub returns-in-Refused : goal.returns-in-Refused
+pub returns-in-Err : goal.returns-in-Err
 unfolding cell_number
-returns-in-Refused c = rw c.in-Refused.is c.number_of.ensures
+returns-in-Err c = rw c.in-Err.is c.from.ensures

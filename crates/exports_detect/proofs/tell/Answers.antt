@@ -1,14 +1,13 @@
 -- `tell` writes what is found, or tells a refusal's number. Assumes nothing.
 use mathlib.Core.Path.{refl}
-use Rattle.told_places.specs.Values.{status_of}
-use Rattle.exports_detect.specs.Tells.{counts_after, places_after, floats_after}
+use Rattle.exports_detect.specs.Tells.{counts_after, places_after, floats_after, status_of}
 use Rattle.exports_detect.proofs.tell.Goals as goal
 
-pub returns-in-Sound : goal.returns-in-Sound
+pub returns-in-Ok : goal.returns-in-Ok
 unfolding status_of counts_after places_after floats_after
-returns-in-Sound c =
-    rw c.in-Sound.is c.put_found.ensures
+returns-in-Ok c =
+    rw c.in-Ok.is c.put_found.ensures
 
-pub returns-in-Refused : goal.returns-in-Refused
+pub returns-in-Err : goal.returns-in-Err
 unfolding status_of counts_after places_after floats_after
-returns-in-Refused c = rw c.in-Refused.is (c.number_of.ensures, refl, refl, refl)
+returns-in-Err c = rw c.in-Err.is (c.from.ensures, refl, refl, refl)

@@ -5,16 +5,16 @@ use Rattle.exports_regions.proofs.tell.Goals as goal
 
 pub put_claimed-requires : goal.put_claimed-requires
 put_claimed-requires c =
-    (c.requires.0, rw c.in-Claimed.is at c.requires.1)
+    (c.requires.0, rw (c.in-Ok-Claimed.is, (rw c.in-Ok-Claimed.is at c.in-Ok-Claimed.field-0-is)) at c.requires.1)
 
-pub returns-in-Claimed : goal.returns-in-Claimed
+pub returns-in-Ok-Claimed : goal.returns-in-Ok-Claimed
 unfolding status_of counts_after
-returns-in-Claimed c = rw c.in-Claimed.is c.put_claimed.ensures
+returns-in-Ok-Claimed c = rw (c.in-Ok-Claimed.is, (rw c.in-Ok-Claimed.is at c.in-Ok-Claimed.field-0-is)) c.put_claimed.ensures
 
-pub returns-in-Unclaimed : goal.returns-in-Unclaimed
+pub returns-in-Ok-Unclaimed : goal.returns-in-Ok-Unclaimed
 unfolding status_of counts_after
-returns-in-Unclaimed c = rw c.in-Unclaimed.is c.put_unclaimed.ensures
+returns-in-Ok-Unclaimed c = rw (c.in-Ok-Unclaimed.is, (rw c.in-Ok-Unclaimed.is at c.in-Ok-Unclaimed.field-0-is)) c.put_unclaimed.ensures
 
-pub returns-in-Refused : goal.returns-in-Refused
+pub returns-in-Err : goal.returns-in-Err
 unfolding status_of counts_after
-returns-in-Refused c = rw c.in-Refused.is (c.number_of.ensures, refl)
+returns-in-Err c = rw c.in-Err.is (c.from.ensures, refl)

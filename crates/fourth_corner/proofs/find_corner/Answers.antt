@@ -10,15 +10,15 @@ returns-then-outline-le21 c = plain c.if-outline-le21.true refl refl refl
 
 pub seek-requires : goal.seek-requires
 seek-requires c =
-    let is = sym c.size_estimate.ensures ∙ ap estimate.meaning c.in-Size.is in
-    (c.requires.0, c.requires.1.corner, c.requires.1.direction, estimate_few _ _ _ c.in-Size.n is)
+    let is = sym c.size_estimate.ensures ∙ ap estimate.meaning c.in-Ok.is in
+    (c.requires.0, c.requires.1.corner, c.requires.1.direction, estimate_few _ _ _ c.in-Ok.n is)
 
-pub returns-in-Size : goal.returns-in-Size
-returns-in-Size c =
-    let is = sym c.size_estimate.ensures ∙ ap estimate.meaning c.in-Size.is in
-    sought c.if-outline-le21.false c.in-Size.n is c.seek.ensures
+pub returns-in-Ok : goal.returns-in-Ok
+returns-in-Ok c =
+    let is = sym c.size_estimate.ensures ∙ ap estimate.meaning c.in-Ok.is in
+    sought c.if-outline-le21.false c.in-Ok.n is c.seek.ensures
 
-pub returns-in-Refused : goal.returns-in-Refused
-returns-in-Refused c =
-    let is = sym c.size_estimate.ensures ∙ ap estimate.meaning c.in-Refused.is in
+pub returns-in-Err : goal.returns-in-Err
+returns-in-Err c =
+    let is = sym c.size_estimate.ensures ∙ ap estimate.meaning c.in-Err.is in
     unguessed c.if-outline-le21.false _ is refl refl refl

@@ -2,10 +2,10 @@
 use Rattle.laid.specs.Laid.{goes}
 use Rattle.laid.proofs.is_sound.Goals as goal
 
-pub returns-in-Sound : goal.returns-in-Sound
+pub returns-in-Ok : goal.returns-in-Ok
 unfolding goes
-returns-in-Sound c = rw c.in-Sound.is
+returns-in-Ok c = rw c.in-Ok.is
 
-pub returns-in-Refused : goal.returns-in-Refused
+pub returns-in-Err : goal.returns-in-Err
 unfolding goes
-returns-in-Refused c = rw c.in-Refused.is
+returns-in-Err c = rw c.in-Err.is

@@ -1,15 +1,17 @@
--- `put_findings` goes by the verdict. Assumes nothing.
+-- `put_findings` goes by what is told. Assumes nothing.
 use native.Mathlib.Omega.{arith}
-use Rattle.laid.specs.Laid.{told}
 use Rattle.detect.specs.Telling.{tells}
 use Rattle.report.proofs.Putting.{puts_within}
 use Rattle.listing.specs.Listing.{listing}
 use Rattle.listing.proofs.put_findings.Goals as goal
 
-pub returns-in-Sound : goal.returns-in-Sound
-unfolding told
-returns-in-Sound c = rw c.in-Sound.is c.put_found.ensures
+pub put_found-requires : goal.put_found-requires
+put_found-requires c = rw c.in-Ok.is at c.requires
 
-pub returns-in-Refused : goal.returns-in-Refused
-unfolding told tells listing
-returns-in-Refused c = rw (c.in-Refused.is, ← c.number_of.ensures) (puts_within 7374 (omega arith) c.put_refused.ensures)
+pub returns-in-Ok : goal.returns-in-Ok
+unfolding tells
+returns-in-Ok c = rw c.in-Ok.is c.put_found.ensures
+
+pub returns-in-Err : goal.returns-in-Err
+unfolding listing
+returns-in-Err c = rw (c.in-Err.is, ← c.from.ensures) (puts_within 7374 (omega arith) c.put_refused.ensures)

@@ -1,34 +1,36 @@
--- `rank_neighbors` copies the stones one by one. After that the array's first stones are the slice's, as many as a ranking looks at,
--- so what the covered ranking answers for the array it answers for the slice. Assumes nothing.
-use Rattle.std.proofs.Common.{◌≡◌, length, ◌≤◌}
+-- `rank_neighbors` copies the slice's first stones, as many as a ranking looks at, over the front of the array, so what the covered ranking
+-- answers for the array it answers for the slice. Assumes nothing.
+use Prim.Native.Nat.{◌≤◌}
 use native.Mathlib.Omega.{arith}
-use lib.ListN.{length-set}
-use Rattle.capstones.specs.Blank.{no_stone}
-use Rattle.neighbors.proofs.Gathered.{gather_next, fewer_all, fewer_low, ranking_alike}
+use mathlib.Core.Path.{◌≡◌, sym, ◌∙◌}
+use mathlib.Core.List.{◌++◌}
+use lib.ListN.{length, take, drop}
+use lib.Seq.{length-take-le}
+use borrow.Author.Rules.{rules}
+use Rattle.neighbors.proofs.Gathered.{gathered, fewer_all, fewer_low, ranking_alike}
 use Rattle.neighbors.proofs.rank_neighbors.Goals as goal
 
-pub offset_bounds-stones-i : goal.offset_bounds-stones-i
-offset_bounds-stones-i c = omega (arith, fewer_low (length c.args.stones.now))
+pub slice_bounds-all-end : goal.slice_bounds-all-end
+slice_bounds-all-end c =
+    let size : length c.blanks-all.result ≡ 64 = search rules in
+    omega (arith, fewer_low (length c.args.stones.now), c.taken-last.ensures)
 
-pub bounds-stones-i : goal.bounds-stones-i
-bounds-stones-i c = omega (arith, fewer_low (length c.args.stones.now))
+pub slice_bounds-copy_from_slice-end : goal.slice_bounds-copy_from_slice-end
+slice_bounds-copy_from_slice-end c =
+    let size : length c.blanks-all.result ≡ 64 = search rules in
+    sym (length-take-le c.taken-last.result c.blanks-all.result (omega (arith, fewer_low (length c.args.stones.now), c.taken-last.ensures)))
 
-pub offset_bounds-all-i : goal.offset_bounds-all-i
-offset_bounds-all-i c = omega (arith, fewer_low (length c.args.stones.now))
+pub slice_bounds-copy_from_slice-end-2 : goal.slice_bounds-copy_from_slice-end-2
+slice_bounds-copy_from_slice-end-2 c =
+    sym (length-take-le c.taken-last.result c.args.stones.now (omega (arith, fewer_low (length c.args.stones.now), c.taken-last.ensures)))
 
-pub bounds-all-i : goal.bounds-all-i
-bounds-all-i c = omega (arith, fewer_low (length c.args.stones.now))
-
-pub loop-i-preserved : goal.loop-i-preserved
-loop-i-preserved c =
-    let low = fewer_low (length c.args.stones.now) in (
-      omega arith,
-      simp length-set c.loop-i.invariant.1,
-      gather_next c.loop-i.all c.args.stones.now c.loop-i.i no_stone (omega arith) (omega arith) c.loop-i.invariant.2,
-    )
+pub copy_from_slice-requires : goal.copy_from_slice-requires
+copy_from_slice-requires c = sym (slice_bounds-copy_from_slice-end c) ∙ slice_bounds-copy_from_slice-end-2 c
 
 pub returns : goal.returns
 returns c =
     let n = length c.args.stones.now in
-    let through : n ≤ 64 → c.loop-i.i ≡ n = λ few. omega (arith, fewer_all n few) in
-    rw (← ranking_alike c.loop-i.all c.args.stones.now n c.args.idx (λ few. rw (through few) at c.loop-i.invariant.2)) c.find_and_rank_possible_neighbors.ensures
+    let through : n ≤ 64 → c.taken-last.result ≡ n = λ few. omega (arith, fewer_all n few, c.taken-last.ensures) in
+    let all = c.copy_from_slice.new.self ++ drop c.taken-last.result c.blanks-all.result in
+    let front : n ≤ 64 → take n all ≡ take n c.args.stones.now = λ few. gathered c.args.stones.now c.blanks-all.result c.copy_from_slice.new.self c.taken-last.result n c.copy_from_slice.ensures.after (through few) (omega arith) in
+    rw (← ranking_alike all c.args.stones.now n c.args.idx front) c.find_and_rank_possible_neighbors.ensures

@@ -1,7 +1,7 @@
 -- `finish` looks where the end leads. Assumes nothing.
 use mathlib.Core.Path.{sym, ap, subst, ◌∙◌}
 use Rattle.netpbm.specs.Machine.{ended_in, Bounded}
-use Rattle.netpbm.specs.declared.Input.TheVariants.{Refused}
+use Rattle.std.proofs.Common.{None}
 use Rattle.netpbm.proofs.Steps.{stepped_bounded, other_ends}
 use Rattle.netpbm.proofs.Told.{told}
 use Rattle.netpbm.proofs.finish.Goals as goal
@@ -17,4 +17,4 @@ returns-in-Pixels c file pixels R =
 
 pub returns-in_default : goal.returns-in_default
 returns-in_default c file pixels R =
-    told file pixels c.args.reader Refused (ap ended_in (sym c.step-end.ensures) ∙ other_ends c.step-end.result c.in_default.not-Pixels) R
+    told file pixels c.args.reader None (ap ended_in (sym c.step-end.ensures) ∙ other_ends c.step-end.result c.in_default.not-Pixels) R

@@ -2,10 +2,10 @@
 use Rattle.outline.specs.Outline.{met_outline, crossed_outline}
 use Rattle.outline.proofs.with_size.Goals as goal
 
-pub returns-in-At : goal.returns-in-At
+pub returns-in_default : goal.returns-in_default
 unfolding crossed_outline met_outline
-returns-in-At c = rw (← c.line_intersect.ensures, c.in-At.is) c.with_corner.ensures
+returns-in_default c = rw (← c.line_intersect.ensures, c.in_default.is)
 
-pub returns-in-Nowhere : goal.returns-in-Nowhere
+pub returns : goal.returns
 unfolding crossed_outline met_outline
-returns-in-Nowhere c = rw (← c.line_intersect.ensures, c.in-Nowhere.is)
+returns c = rw (← c.line_intersect.ensures, c.in-Some.is) c.with_corner.ensures

@@ -6,6 +6,6 @@ pub returns-then-x-limit : goal.returns-then-x-limit
 unfolding within
 returns-then-x-limit c = rw c.if-x-limit.true
 
-pub returns : goal.returns
+pub returns-else-x-limit : goal.returns-else-x-limit
 unfolding within
-returns c = rw c.if-x-limit.false
+returns-else-x-limit c = rw c.if-x-limit.false

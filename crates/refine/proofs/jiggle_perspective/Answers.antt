@@ -8,17 +8,17 @@ use Rattle.refine.specs.Refine.{passes, refined}
 use Rattle.refine.proofs.Steps.{two_hundredths}
 use Rattle.refine.proofs.jiggle_perspective.Goals as goal
 
-pub loop-n-init : goal.loop-n-init
+pub loop-init : goal.loop-init
 unfolding adjustments passes
-loop-n-init c = (omega arith, refl, refl)
+loop-init c = (refl, refl)
 
-pub loop-n-preserved : goal.loop-n-preserved
+pub loop-preserved : goal.loop-preserved
 unfolding adjustments passes
-loop-n-preserved c =
-    (omega arith, rw (c.scaled-steps-in-loop-n.ensures, c.loop-n.invariant.1, five_tenths, add-one), rw (c.pass-best.ensures, c.loop-n.invariant.2, c.loop-n.invariant.1, add-one))
+loop-preserved c =
+    (rw (c.scaled-steps-in-loop.ensures, c.loop.invariant.0, five_tenths, add-one), rw (c.pass-best.ensures, c.loop.invariant.1, c.loop.invariant.0, add-one))
 
 pub returns : goal.returns
 unfolding refined
 returns c =
-    let last : c.loop-n.n ≡ 5 = omega arith in
-    rw (c.loop-n.invariant.2, last, c.scaled-steps.ensures, two_hundredths, c.scored-best.ensures, c.fitness_all.ensures.is)
+    let last : c.loop.counter ≡ 5 = omega arith in
+    rw (c.loop.invariant.1, last, c.scaled-steps.ensures, two_hundredths, c.scored-best.ensures, c.fitness_all.ensures.is)

@@ -23,7 +23,7 @@ bounds-pic-y c = seed_place c.requires
 pub returns-then-is_claimed : goal.returns-then-is_claimed
 returns-then-is_claimed c =
     let high = c.is_claimed.ensures.0 c.if-is_claimed.true in
-    (_, refl, at_claimed (record { low = high.0; high = high.1; answer = ap claimed c.color_of.ensures; picture = refl; table = refl }))
+    (_, refl, at_claimed (record { low = high.0; high = high.1; answer = ap claimed c.from.ensures; picture = refl; table = refl }))
 
 pub chosen-choice-requires : goal.chosen-choice-requires
 chosen-choice-requires c =

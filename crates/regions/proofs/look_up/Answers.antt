@@ -10,13 +10,13 @@ use Rattle.regions.proofs.look_up.Goals as goal
 
 pub get_region-requires : goal.get_region-requires
 get_region-requires c =
-    let passed : first (look_tests c.args.pic.now c.args.width c.args.height (length c.args.stack.now) c.args.table c.args.x c.args.y) sound ≡ sound = sym c.lookable.ensures ∙ ap judged c.in-Sound.is in
+    let passed : first (look_tests c.args.pic.now c.args.width c.args.height (length c.args.stack.now) c.args.table c.args.x c.args.y) sound ≡ sound = sym c.lookable.ensures ∙ ap judged c.in-Ok.is in
     lookable _ _ _ _ _ _ _ (passed)
 
-pub returns-in-Refused : goal.returns-in-Refused
-returns-in-Refused c = refuses _ refl (sym c.lookable.ensures ∙ ap judged c.in-Refused.is) refl refl
+pub returns-in-Err : goal.returns-in-Err
+returns-in-Err c = refuses _ refl (sym c.lookable.ensures ∙ ap judged c.in-Err.is) refl refl
 
-pub returns-in-Sound : goal.returns-in-Sound
-returns-in-Sound c =
-    let passed : first (look_tests c.args.pic.now c.args.width c.args.height (length c.args.stack.now) c.args.table c.args.x c.args.y) sound ≡ sound = sym c.lookable.ensures ∙ ap judged c.in-Sound.is in
+pub returns-in-Ok : goal.returns-in-Ok
+returns-in-Ok c =
+    let passed : first (look_tests c.args.pic.now c.args.width c.args.height (length c.args.stack.now) c.args.table c.args.x c.args.y) sound ≡ sound = sym c.lookable.ensures ∙ ap judged c.in-Ok.is in
     answers c.get_region.ensures.0 c.get_region.ensures.1 (passed) c.get_region.ensures.2

@@ -1,11 +1,11 @@
 -- `rounding::nearest` meets its contract, by its tests (`proofs/Cases.antt`). Assumes nothing.
+use Rattle.std.specs.Prelude.{Some}
 use mathlib.Core.Path.{ap, ◌∙◌, sym}
 use lib.Ieee.{of_bits, neg}
 use Prim.Native.Nat.{ℕ}
 use lib.IntN.{pos, neg_ℤ}
 use mir.Syntax.{w32}
 use mir.Facts.{to_z-of_z}
-use Rattle.rounding.specs.declared.Whole.TheVariants.{At}
 use Rattle.rounding.proofs.Cases.{Up, up_at, up_off, Down, down_at_lem, down_off, rest_nan, rest_zero}
 use Rattle.rounding.proofs.nearest.Goals as goal
 
@@ -25,7 +25,7 @@ pub returns-then-x-2 : goal.returns-then-x-2
 unfolding neg of_bits
 returns-then-x-2 c =
     let ups : Up c.args.x = up_at c.args.x c.if-x.true c.if-x-2.true in
-    ap At (to_z-of_z {w = w32} (record { sfits = c.plus.type_inv }) ∙ c.plus.ensures ∙ ap pos c.half_up.ensures)
+    ap Some (to_z-of_z {w = w32} (record { sfits = c.plus.type_inv }) ∙ c.plus.ensures ∙ ap pos c.half_up.ensures)
     ∙ sym (ups).at
 
 pub returns-then-x : goal.returns-then-x
@@ -48,7 +48,7 @@ pub returns-then-x-4 : goal.returns-then-x-4
 unfolding neg of_bits
 returns-then-x-4 c =
     let downs : Down c.args.x = down_at_lem c.args.x c.if-x-3.true c.if-x-4.true in
-    ap At (to_z-of_z {w = w32} (record { sfits = c.minus.type_inv }) ∙ c.minus.ensures ∙ ap (λ (n : ℕ). neg_ℤ (pos n)) c.half_up-then-x-4.ensures)
+    ap Some (to_z-of_z {w = w32} (record { sfits = c.minus.type_inv }) ∙ c.minus.ensures ∙ ap (λ (n : ℕ). neg_ℤ (pos n)) c.half_up-then-x-4.ensures)
     ∙ sym (downs).at
 
 pub returns-then-x-3 : goal.returns-then-x-3

@@ -1,46 +1,55 @@
--- `is_mark_like` tests the middle run, then run after run, and ends at the first that is not near. Assumes nothing.
-use Prim.Native.Nat.{zero-le}
-use mathlib.Core.Path.{◌≡◌, refl, sym, ◌∙◌}
-use native.Mathlib.Omega.{arith}
-use Rattle.runs.specs.Mark.{all_near, mark_like}
-use Rattle.runs.proofs.Shares.{share_of, one_more, one_off}
+-- `is_mark_like` tests the middle run first, then the others, and ends at the first that is not near. Assumes nothing.
+use mathlib.Core.Path.{◌≡◌, refl, ◌∙◌}
+use mathlib.Core.Bool.{◌&&◌}
+use Prim.Native.Nat.{ℕ}
+use lib.ListN.{get_or}
+use Rattle.runs.specs.Mark.{near, error}
+use Rattle.runs.proofs.Shares.{then_tested, else_untested, mark_tests}
+use Rattle.runs.proofs.is_mark_like.Goals.{then-is_near, else-is_near, then-is_near-2, else-is_near-2, then-is_near-3, else-is_near-3}
 use Rattle.runs.proofs.is_mark_like.Goals as goal
 
-pub average_of-avg-requires : goal.average_of-avg-requires
-average_of-avg-requires c = c.requires
+pub returns-then-is_near-4 : goal.returns-then-is_near-4
+returns-then-is_near-4 c =
+    let avg : ℕ = c.average_of-avg.result in
+    let v1 : c.if-is_near.value ≡ (c.is_near.result && near (get_or c.args.runs 0 0) avg (error avg)) =
+    elim c.if-is_near.branch [
+      | then-is_near w ↦ then_tested w.if-is_near.true (w.value-is ∙ w.is_near-then-is_near.ensures)
+      | else-is_near w ↦ else_untested _ w.if-is_near.false w.value-is
+    ]
+    in
+    let v2 : c.if-is_near-2.value ≡ (c.if-is_near.value && near (get_or c.args.runs 1 0) avg (error avg)) =
+    elim c.if-is_near-2.branch [
+      | then-is_near-2 w ↦ then_tested w.if-is_near-2.true (w.value-is ∙ w.is_near-then-is_near-2.ensures)
+      | else-is_near-2 w ↦ else_untested _ w.if-is_near-2.false w.value-is
+    ]
+    in
+    let v3 : c.if-is_near-3.value ≡ (c.if-is_near-2.value && near (get_or c.args.runs 3 0) avg (error avg)) =
+    elim c.if-is_near-3.branch [
+      | then-is_near-3 w ↦ then_tested w.if-is_near-3.true (w.value-is ∙ w.is_near-then-is_near-3.ensures)
+      | else-is_near-3 w ↦ else_untested _ w.if-is_near-3.false w.value-is
+    ]
+    in
+    then_tested c.if-is_near-4.true c.is_near-then-is_near-4.ensures ∙ mark_tests c.args.runs c.average_of-avg.ensures.0 c.is_near.ensures v1 v2 v3
 
-pub is_near-requires : goal.is_near-requires
-is_near-requires c = (omega arith, omega arith)
-
-pub returns-then-not-is_near : goal.returns-then-not-is_near
-unfolding mark_like
-returns-then-not-is_near c =
-    let off = sym c.is_near.ensures ∙ c.if-not-is_near.true in
-    sym (rw (← c.average_of-avg.ensures.0) (one_off _ _ 2 5 off (omega arith)))
-
-pub loop-i-init : goal.loop-i-init
-unfolding all_near
-loop-i-init c = (zero-le, refl)
-
-pub overflow_mul-i : goal.overflow_mul-i
-overflow_mul-i c = let s = share_of c.loop-i.i c.average_of-avg.result (omega arith) in omega (arith, s.1)
-
-pub is_near-requires-in-loop-i : goal.is_near-requires-in-loop-i
-is_near-requires-in-loop-i c = let s = share_of c.loop-i.i c.average_of-avg.result (omega arith) in (omega (arith, s.0), omega (arith, s.1))
-
-pub returns-then-not-is_near-2 : goal.returns-then-not-is_near-2
-unfolding mark_like
-returns-then-not-is_near-2 c =
-    let off = sym c.is_near-in-loop-i.ensures ∙ c.if-not-is_near-2.true in
-    sym (rw (← c.average_of-avg.ensures.0) (one_off _ _ c.loop-i.i 5 off (omega arith)))
-
-pub loop-i-preserved : goal.loop-i-preserved
-loop-i-preserved c =
-    let on = sym c.is_near-in-loop-i.ensures ∙ c.if-not-is_near-2.false in
-    (omega arith, one_more _ _ c.loop-i.i on c.loop-i.invariant.1)
-
-pub returns : goal.returns
-unfolding mark_like
-returns c =
-    let all : c.loop-i.i ≡ 5 = omega arith in
-    sym (rw (← c.average_of-avg.ensures.0) (rw all at c.loop-i.invariant.1))
+pub returns-else-is_near-4 : goal.returns-else-is_near-4
+returns-else-is_near-4 c =
+    let avg : ℕ = c.average_of-avg.result in
+    let v1 : c.if-is_near.value ≡ (c.is_near.result && near (get_or c.args.runs 0 0) avg (error avg)) =
+    elim c.if-is_near.branch [
+      | then-is_near w ↦ then_tested w.if-is_near.true (w.value-is ∙ w.is_near-then-is_near.ensures)
+      | else-is_near w ↦ else_untested _ w.if-is_near.false w.value-is
+    ]
+    in
+    let v2 : c.if-is_near-2.value ≡ (c.if-is_near.value && near (get_or c.args.runs 1 0) avg (error avg)) =
+    elim c.if-is_near-2.branch [
+      | then-is_near-2 w ↦ then_tested w.if-is_near-2.true (w.value-is ∙ w.is_near-then-is_near-2.ensures)
+      | else-is_near-2 w ↦ else_untested _ w.if-is_near-2.false w.value-is
+    ]
+    in
+    let v3 : c.if-is_near-3.value ≡ (c.if-is_near-2.value && near (get_or c.args.runs 3 0) avg (error avg)) =
+    elim c.if-is_near-3.branch [
+      | then-is_near-3 w ↦ then_tested w.if-is_near-3.true (w.value-is ∙ w.is_near-then-is_near-3.ensures)
+      | else-is_near-3 w ↦ else_untested _ w.if-is_near-3.false w.value-is
+    ]
+    in
+    else_untested (near (get_or c.args.runs 4 0) avg (error avg)) c.if-is_near-4.false refl ∙ mark_tests c.args.runs c.average_of-avg.ensures.0 c.is_near.ensures v1 v2 v3

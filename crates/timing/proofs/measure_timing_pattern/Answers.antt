@@ -1,60 +1,61 @@
 -- `measure_timing_pattern` states the three ends, and measures between them; the first refusal stands. Assumes nothing.
+use Rattle.std.proofs.lemmas.Result.{err_from_is_err_and}
 use mathlib.Core.Path.{◌≡◌, sym, ap, ◌∙◌}
 use lib.Ieee as Ieee
 use lib.Ieee.{of_bits}
-use Rattle.refusals.specs.Finding.{Finding, found, refused_by}
-use Rattle.points.specs.declared.Point.{Point}
+use Rattle.refusals.specs.Finding.{found, refused_by}
 use Rattle.stated.specs.Stated.{meaning, stated_at}
 use Rattle.stated.proofs.Reach.{stated_near}
 use Rattle.cells.specs.Cell.{middle}
 use Rattle.timing.specs.Measure.{measured_between, measured_of}
 use Rattle.timing.proofs.measure_timing_pattern.Goals as goal
 
-pub size_between-requires : goal.size_between-requires
+pub size_between-requires-clause-fact_2 : goal.size_between-requires-clause-fact_2
 unfolding Ieee.add Ieee.of_int of_bits
-size_between-requires c =
-    let end0 : Finding Point = stated_at c.args.c0 (middle 6) (middle 0) in
-    let at0 : end0 ≡ found c.in-At.p0 = sym c.state-end0.ensures ∙ ap meaning c.in-At.is in
-    let end1 : Finding Point = stated_at c.args.c1 (middle 6) (middle 6) in
-    let at1 : end1 ≡ found c.in-At-end1.p1 = sym c.state-end1.ensures ∙ ap meaning c.in-At-end1.is in
-    let end2 : Finding Point = stated_at c.args.c2 (middle 0) (middle 6) in
-    let at2 : end2 ≡ found c.in-At-end2.p2 = sym c.state-end2.ensures ∙ ap meaning c.in-At-end2.is in
-    record { fact_1 = c.requires; fact_2 = (stated_near _ _ (at0)).1; fact_3 = (stated_near _ _ (at1)).1; fact_4 = (stated_near _ _ (at2)).1 }
+size_between-requires-clause-fact_2 c =
+    let at0 : stated_at c.args.c0 (middle 6) (middle 0) ≡ found c.in_ok-p0.p0 = sym c.state.ensures ∙ ap meaning c.in_ok-p0.was in
+    (stated_near _ _ (at0)).1
 
-pub returns-in-Refused : goal.returns-in-Refused
-unfolding measured_of measured_between Ieee.add Ieee.of_int of_bits
-returns-in-Refused c =
-    let end0 : Finding Point = stated_at c.args.c0 (middle 6) (middle 0) in
-    let no0 : end0 ≡ refused_by c.in-Refused.why = sym c.state-end0.ensures ∙ ap meaning c.in-Refused.is in
-    rw (no0)
+pub size_between-requires-clause-fact_3 : goal.size_between-requires-clause-fact_3
+unfolding Ieee.add Ieee.of_int of_bits
+size_between-requires-clause-fact_3 c =
+    let at1 : stated_at c.args.c1 (middle 6) (middle 6) ≡ found c.in_ok-p1.p1 = sym c.state-2.ensures ∙ ap meaning c.in_ok-p1.was in
+    (stated_near _ _ (at1)).1
 
-pub returns-in-Refused-end1 : goal.returns-in-Refused-end1
-unfolding measured_of measured_between Ieee.add Ieee.of_int of_bits
-returns-in-Refused-end1 c =
-    let end0 : Finding Point = stated_at c.args.c0 (middle 6) (middle 0) in
-    let at0 : end0 ≡ found c.in-At.p0 = sym c.state-end0.ensures ∙ ap meaning c.in-At.is in
-    let end1 : Finding Point = stated_at c.args.c1 (middle 6) (middle 6) in
-    let no1 : end1 ≡ refused_by c.in-Refused-end1.why = sym c.state-end1.ensures ∙ ap meaning c.in-Refused-end1.is in
-    rw (at0, no1)
+pub size_between-requires-clause-fact_4 : goal.size_between-requires-clause-fact_4
+unfolding Ieee.add Ieee.of_int of_bits
+size_between-requires-clause-fact_4 c =
+    let at2 : stated_at c.args.c2 (middle 0) (middle 6) ≡ found c.in_ok-p2.p2 = sym c.state-3.ensures ∙ ap meaning c.in_ok-p2.was in
+    (stated_near _ _ (at2)).1
 
-pub returns-in-Refused-end2 : goal.returns-in-Refused-end2
+pub returns-in_err-p0 : goal.returns-in_err-p0
 unfolding measured_of measured_between Ieee.add Ieee.of_int of_bits
-returns-in-Refused-end2 c =
-    let end0 : Finding Point = stated_at c.args.c0 (middle 6) (middle 0) in
-    let at0 : end0 ≡ found c.in-At.p0 = sym c.state-end0.ensures ∙ ap meaning c.in-At.is in
-    let end1 : Finding Point = stated_at c.args.c1 (middle 6) (middle 6) in
-    let at1 : end1 ≡ found c.in-At-end1.p1 = sym c.state-end1.ensures ∙ ap meaning c.in-At-end1.is in
-    let end2 : Finding Point = stated_at c.args.c2 (middle 0) (middle 6) in
-    let no2 : end2 ≡ refused_by c.in-Refused-end2.why = sym c.state-end2.ensures ∙ ap meaning c.in-Refused-end2.is in
-    rw (at0, at1, no2)
+returns-in_err-p0 c =
+    let no0 : stated_at c.args.c0 (middle 6) (middle 0) ≡ refused_by c.in_err-p0.field-0.0 = sym c.state.ensures ∙ ap meaning c.in_err-p0.was in
+    let p = err_from_is_err_and c.from_residual.result c.from_residual.ensures.1 in
+    rw (p.1, p.2, no0)
 
-pub returns-in-At-end2 : goal.returns-in-At-end2
+pub returns-in_err-p1 : goal.returns-in_err-p1
 unfolding measured_of measured_between Ieee.add Ieee.of_int of_bits
-returns-in-At-end2 c =
-    let end0 : Finding Point = stated_at c.args.c0 (middle 6) (middle 0) in
-    let at0 : end0 ≡ found c.in-At.p0 = sym c.state-end0.ensures ∙ ap meaning c.in-At.is in
-    let end1 : Finding Point = stated_at c.args.c1 (middle 6) (middle 6) in
-    let at1 : end1 ≡ found c.in-At-end1.p1 = sym c.state-end1.ensures ∙ ap meaning c.in-At-end1.is in
-    let end2 : Finding Point = stated_at c.args.c2 (middle 0) (middle 6) in
-    let at2 : end2 ≡ found c.in-At-end2.p2 = sym c.state-end2.ensures ∙ ap meaning c.in-At-end2.is in
+returns-in_err-p1 c =
+    let at0 : stated_at c.args.c0 (middle 6) (middle 0) ≡ found c.in_ok-p0.p0 = sym c.state.ensures ∙ ap meaning c.in_ok-p0.was in
+    let no1 : stated_at c.args.c1 (middle 6) (middle 6) ≡ refused_by c.in_err-p1.field-0.0 = sym c.state-2.ensures ∙ ap meaning c.in_err-p1.was in
+    let p = err_from_is_err_and c.from_residual-in_err-p1.result c.from_residual-in_err-p1.ensures.1 in
+    rw (p.1, p.2, at0, no1)
+
+pub returns-in_err-p2 : goal.returns-in_err-p2
+unfolding measured_of measured_between Ieee.add Ieee.of_int of_bits
+returns-in_err-p2 c =
+    let at0 : stated_at c.args.c0 (middle 6) (middle 0) ≡ found c.in_ok-p0.p0 = sym c.state.ensures ∙ ap meaning c.in_ok-p0.was in
+    let at1 : stated_at c.args.c1 (middle 6) (middle 6) ≡ found c.in_ok-p1.p1 = sym c.state-2.ensures ∙ ap meaning c.in_ok-p1.was in
+    let no2 : stated_at c.args.c2 (middle 0) (middle 6) ≡ refused_by c.in_err-p2.field-0.0 = sym c.state-3.ensures ∙ ap meaning c.in_err-p2.was in
+    let p = err_from_is_err_and c.from_residual-in_err-p2.result c.from_residual-in_err-p2.ensures.1 in
+    rw (p.1, p.2, at0, at1, no2)
+
+pub returns : goal.returns
+unfolding measured_of measured_between Ieee.add Ieee.of_int of_bits
+returns c =
+    let at0 : stated_at c.args.c0 (middle 6) (middle 0) ≡ found c.in_ok-p0.p0 = sym c.state.ensures ∙ ap meaning c.in_ok-p0.was in
+    let at1 : stated_at c.args.c1 (middle 6) (middle 6) ≡ found c.in_ok-p1.p1 = sym c.state-2.ensures ∙ ap meaning c.in_ok-p1.was in
+    let at2 : stated_at c.args.c2 (middle 0) (middle 6) ≡ found c.in_ok-p2.p2 = sym c.state-3.ensures ∙ ap meaning c.in_ok-p2.was in
     rw (at0, at1, at2) c.size_between.ensures

@@ -2,10 +2,10 @@
 use Rattle.told_places.specs.Values.{status_of}
 use Rattle.told_places.proofs.status_of.Goals as goal
 
-pub returns-in-Sound : goal.returns-in-Sound
+pub returns-in-Ok : goal.returns-in-Ok
 unfolding status_of
-returns-in-Sound c = rw c.in-Sound.is
+returns-in-Ok c = rw c.in-Ok.is
 
-pub returns-in-Refused : goal.returns-in-Refused
+pub returns-in-Err : goal.returns-in-Err
 unfolding status_of
-returns-in-Refused c = rw c.in-Refused.is c.number_of.ensures
+returns-in-Err c = rw c.in-Err.is c.from.ensures

@@ -16,25 +16,25 @@ glance_pixel-requires c =
     let ey : to_z w32 (of_z w32 c.args.at.y) ≡ c.args.at.y = search rules in
     rw (ex, ey) at c.place_at.ensures
     in
-    let i = pixel_in _ _ _ _ _ _ (sym (placed) ∙ c.in-Pixel.is) in
+    let i = pixel_in _ _ _ _ _ _ (sym (placed) ∙ c.in-Some.is) in
     in_picture c.args.width c.args.height c.args.pic.now c.requires.whole _ _ i.2 i.3
 
-pub returns-in-Pixel : goal.returns-in-Pixel
+pub returns-in-Some : goal.returns-in-Some
 unfolding glance_at
-returns-in-Pixel c =
+returns-in-Some c =
     let placed : c.place_at.result ≡ place_at c.args.width c.args.height c.args.at.x c.args.at.y =
     let ex : to_z w32 (of_z w32 c.args.at.x) ≡ c.args.at.x = search rules in
     let ey : to_z w32 (of_z w32 c.args.at.y) ≡ c.args.at.y = search rules in
     rw (ex, ey) at c.place_at.ensures
     in
-    rw (← (placed), c.in-Pixel.is) c.glance_pixel.ensures
+    rw (← (placed), c.in-Some.is) c.glance_pixel.ensures
 
-pub returns-in-Beside : goal.returns-in-Beside
+pub returns-in-None : goal.returns-in-None
 unfolding glance_at
-returns-in-Beside c =
+returns-in-None c =
     let placed : c.place_at.result ≡ place_at c.args.width c.args.height c.args.at.x c.args.at.y =
     let ex : to_z w32 (of_z w32 c.args.at.x) ≡ c.args.at.x = search rules in
     let ey : to_z w32 (of_z w32 c.args.at.y) ≡ c.args.at.y = search rules in
     rw (ex, ey) at c.place_at.ensures
     in
-    rw (← (placed), c.in-Beside.is)
+    rw (← (placed), c.in-None.is)

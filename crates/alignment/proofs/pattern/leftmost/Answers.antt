@@ -17,8 +17,8 @@ unsigned_abs-y-requires c = let W = place_within c.requires in search (rules, in
 pub new-finder-requires : goal.new-finder-requires
 new-finder-requires c = record { fact_1 = c.requires.line; fact_2 = place_within c.requires }
 
-pub fill_left_most-found-requires : goal.fill_left_most-found-requires
-fill_left_most-found-requires c =
+pub fill_and_find-found-requires : goal.fill_and_find-found-requires
+fill_and_find-found-requires c =
     let x : to_z w32 (of_z w32 c.args.at.x) ≡ c.args.at.x = search rules in
     let column : c.unsigned_abs-x.result ≡ nat_abs c.args.at.x = c.unsigned_abs-x.ensures ∙ ap nat_abs (x) in
     let y : to_z w32 (of_z w32 c.args.at.y) ≡ c.args.at.y = search rules in
@@ -35,6 +35,6 @@ returns c =
       x = c.unsigned_abs-x.result;
       y = c.unsigned_abs-y.result;
       place = rw (column, line) (claim_place c.requires);
-      paint = c.fill_left_most-found.ensures.0;
-      is = rw (c.fill_left_most-found.ensures.1, c.new-finder.ensures);
+      paint = c.fill_and_find-found.ensures.0;
+      is = rw (c.fill_and_find-found.ensures.1, c.new-finder.ensures);
     }

@@ -42,51 +42,55 @@ glide-on-requires c =
     c.visit_place-visited.new.pic (length c.visit_place-visited.new.stack) s at c.visit_place-visited.result.table
     in
     let room_after : length c.loop-pass.stack ≤ length c.visit_place-visited.new.stack = omega (arith, c.visit_place-visited.auto.stack) in
+    let which = rw c.in-Ok-Moves.is at c.in-Ok-Moves.field-0-is in
     let on_moves : Ahead c.next.result c.moved-to.result =
     rw (c.next.ensures, c.moved-to.ensures)
-    (along_moves c.loop-pass.invariant.0 c.loop-pass-test.true c.visit_place-visited.ensures (room_after) c.in-Moves.is)
+    (along_moves c.loop-pass.invariant.0 c.loop-pass-test.true c.visit_place-visited.ensures (room_after) (rw which at c.in-Ok-Moves.is))
     in
     let A = on_moves in (A.roomy.sized, A.turning, A.near, A.few)
 
-pub loop-pass-smaller-in-Moves : goal.loop-pass-smaller-in-Moves
-loop-pass-smaller-in-Moves c =
+pub loop-pass-smaller-in-Ok-Moves : goal.loop-pass-smaller-in-Ok-Moves
+loop-pass-smaller-in-Ok-Moves c =
     let Ahead : Pass → Point → Type 0 = λ s at.
     Along c.args.pic.now c.args.width c.args.height c.args.estimate c.args.first c.args.from c.args.table
     c.visit_place-visited.new.pic (length c.visit_place-visited.new.stack) s at c.visit_place-visited.result.table
     in
     let room_after : length c.loop-pass.stack ≤ length c.visit_place-visited.new.stack = omega (arith, c.visit_place-visited.auto.stack) in
+    let which = rw c.in-Ok-Moves.is at c.in-Ok-Moves.field-0-is in
     let on_moves : Ahead c.next.result c.moved-to.result =
     rw (c.next.ensures, c.moved-to.ensures)
-    (along_moves c.loop-pass.invariant.0 c.loop-pass-test.true c.visit_place-visited.ensures (room_after) c.in-Moves.is)
+    (along_moves c.loop-pass.invariant.0 c.loop-pass-test.true c.visit_place-visited.ensures (room_after) (rw which at c.in-Ok-Moves.is))
     in
     lt_of_le_of_lt (along_fewer (on_moves) c.passed_by-passed.ensures c.glide-on.ensures) (rw c.next.ensures (along_less c.loop-pass.invariant.0 c.loop-pass-test.true))
 
-pub loop-pass-preserved-in-Moves : goal.loop-pass-preserved-in-Moves
-loop-pass-preserved-in-Moves c =
+pub loop-pass-preserved-in-Ok-Moves : goal.loop-pass-preserved-in-Ok-Moves
+loop-pass-preserved-in-Ok-Moves c =
     let Ahead : Pass → Point → Type 0 = λ s at.
     Along c.args.pic.now c.args.width c.args.height c.args.estimate c.args.first c.args.from c.args.table
     c.visit_place-visited.new.pic (length c.visit_place-visited.new.stack) s at c.visit_place-visited.result.table
     in
     let room_after : length c.loop-pass.stack ≤ length c.visit_place-visited.new.stack = omega (arith, c.visit_place-visited.auto.stack) in
+    let which = rw c.in-Ok-Moves.is at c.in-Ok-Moves.field-0-is in
     let on_moves : Ahead c.next.result c.moved-to.result =
     rw (c.next.ensures, c.moved-to.ensures)
-    (along_moves c.loop-pass.invariant.0 c.loop-pass-test.true c.visit_place-visited.ensures (room_after) c.in-Moves.is)
+    (along_moves c.loop-pass.invariant.0 c.loop-pass-test.true c.visit_place-visited.ensures (room_after) (rw which at c.in-Ok-Moves.is))
     in
     let same_picture : length c.visit_place-visited.new.pic ≡ length c.args.pic.now = omega (arith, c.loop-pass.invariant.1, c.visit_place-visited.auto.pic) in
     let same_stack : length c.visit_place-visited.new.stack ≡ length c.args.stack.now = omega (arith, c.loop-pass.invariant.2, c.visit_place-visited.auto.stack) in
     (along_glides (on_moves) c.passed_by-passed.ensures c.glide-on.ensures, same_picture, same_stack)
 
-pub next-requires-in-Stays : goal.next-requires-in-Stays
-next-requires-in-Stays c = c.loop-pass.invariant.0.turning
+pub next-requires-in-Ok-Stays : goal.next-requires-in-Ok-Stays
+next-requires-in-Ok-Stays c = c.loop-pass.invariant.0.turning
 
-pub glide-on-requires-in-Stays : goal.glide-on-requires-in-Stays
-glide-on-requires-in-Stays c =
+pub glide-on-requires-in-Ok-Stays : goal.glide-on-requires-in-Ok-Stays
+glide-on-requires-in-Ok-Stays c =
     let Ahead : Pass → Point → Type 0 = λ s at.
     Along c.args.pic.now c.args.width c.args.height c.args.estimate c.args.first c.args.from c.args.table
     c.visit_place-visited.new.pic (length c.visit_place-visited.new.stack) s at c.visit_place-visited.result.table
     in
     let room_after : length c.loop-pass.stack ≤ length c.visit_place-visited.new.stack = omega (arith, c.visit_place-visited.auto.stack) in
-    let on_stays : Ahead c.next-in-Stays.result c.loop-pass.at = rw c.next-in-Stays.ensures (along_stays c.loop-pass.invariant.0 c.loop-pass-test.true c.visit_place-visited.ensures (room_after) c.in-Stays.is) in
+    let which = rw c.in-Ok-Stays.is at c.in-Ok-Stays.field-0-is in
+    let on_stays : Ahead c.next-in-Ok-Stays.result c.loop-pass.at = rw c.next-in-Ok-Stays.ensures (along_stays c.loop-pass.invariant.0 c.loop-pass-test.true c.visit_place-visited.ensures (room_after) (rw which at c.in-Ok-Stays.is)) in
     let A = on_stays in (A.roomy.sized, A.turning, A.near, A.few)
 
 pub loop-pass-smaller : goal.loop-pass-smaller
@@ -96,8 +100,9 @@ loop-pass-smaller c =
     c.visit_place-visited.new.pic (length c.visit_place-visited.new.stack) s at c.visit_place-visited.result.table
     in
     let room_after : length c.loop-pass.stack ≤ length c.visit_place-visited.new.stack = omega (arith, c.visit_place-visited.auto.stack) in
-    let on_stays : Ahead c.next-in-Stays.result c.loop-pass.at = rw c.next-in-Stays.ensures (along_stays c.loop-pass.invariant.0 c.loop-pass-test.true c.visit_place-visited.ensures (room_after) c.in-Stays.is) in
-    lt_of_le_of_lt (along_fewer (on_stays) c.passed_by-passed.ensures c.glide-on-in-Stays.ensures) (rw c.next-in-Stays.ensures (along_less c.loop-pass.invariant.0 c.loop-pass-test.true))
+    let which = rw c.in-Ok-Stays.is at c.in-Ok-Stays.field-0-is in
+    let on_stays : Ahead c.next-in-Ok-Stays.result c.loop-pass.at = rw c.next-in-Ok-Stays.ensures (along_stays c.loop-pass.invariant.0 c.loop-pass-test.true c.visit_place-visited.ensures (room_after) (rw which at c.in-Ok-Stays.is)) in
+    lt_of_le_of_lt (along_fewer (on_stays) c.passed_by-passed.ensures c.glide-on-in-Ok-Stays.ensures) (rw c.next-in-Ok-Stays.ensures (along_less c.loop-pass.invariant.0 c.loop-pass-test.true))
 
 pub loop-pass-preserved : goal.loop-pass-preserved
 loop-pass-preserved c =
@@ -106,18 +111,20 @@ loop-pass-preserved c =
     c.visit_place-visited.new.pic (length c.visit_place-visited.new.stack) s at c.visit_place-visited.result.table
     in
     let room_after : length c.loop-pass.stack ≤ length c.visit_place-visited.new.stack = omega (arith, c.visit_place-visited.auto.stack) in
-    let on_stays : Ahead c.next-in-Stays.result c.loop-pass.at = rw c.next-in-Stays.ensures (along_stays c.loop-pass.invariant.0 c.loop-pass-test.true c.visit_place-visited.ensures (room_after) c.in-Stays.is) in
+    let which = rw c.in-Ok-Stays.is at c.in-Ok-Stays.field-0-is in
+    let on_stays : Ahead c.next-in-Ok-Stays.result c.loop-pass.at = rw c.next-in-Ok-Stays.ensures (along_stays c.loop-pass.invariant.0 c.loop-pass-test.true c.visit_place-visited.ensures (room_after) (rw which at c.in-Ok-Stays.is)) in
     let same_picture : length c.visit_place-visited.new.pic ≡ length c.args.pic.now = omega (arith, c.loop-pass.invariant.1, c.visit_place-visited.auto.pic) in
     let same_stack : length c.visit_place-visited.new.stack ≡ length c.args.stack.now = omega (arith, c.loop-pass.invariant.2, c.visit_place-visited.auto.stack) in
-    (along_glides (on_stays) c.passed_by-passed.ensures c.glide-on-in-Stays.ensures, same_picture, same_stack)
+    (along_glides (on_stays) c.passed_by-passed.ensures c.glide-on-in-Ok-Stays.ensures, same_picture, same_stack)
 
-pub returns-in-Here : goal.returns-in-Here
-returns-in-Here c =
-    along_here c.loop-pass.invariant.0 c.loop-pass-test.true c.visit_place-visited.ensures c.in-Here.is
+pub returns-in-Ok-Here : goal.returns-in-Ok-Here
+returns-in-Ok-Here c =
+    let which = rw c.in-Ok-Here.is at c.in-Ok-Here.field-0-is in
+    along_here c.loop-pass.invariant.0 c.loop-pass-test.true c.visit_place-visited.ensures (rw which at c.in-Ok-Here.is)
 
-pub returns-in-Refused : goal.returns-in-Refused
-returns-in-Refused c =
-    along_stops c.loop-pass.invariant.0 c.loop-pass-test.true c.visit_place-visited.ensures _ c.in-Refused.is
+pub returns-in-Err : goal.returns-in-Err
+returns-in-Err c =
+    along_stops c.loop-pass.invariant.0 c.loop-pass-test.true c.visit_place-visited.ensures _ c.in-Err.is
 
 pub returns : goal.returns
 returns c = along_far c.loop-pass.invariant.0 c.loop-pass-test.false

@@ -9,14 +9,14 @@ use Rattle.cell_fitness.proofs.cell.ahead.Goals as goal
 
 pub from_zero-requires : goal.from_zero-requires
 from_zero-requires c =
-    let e : to_z w32 (of_z w32 c.in-At.i) ≡ c.in-At.i = search rules in
-    rw e (not_below _ c.in-At.i c.requires (sym c.nearest.ensures ∙ c.in-At.is))
+    let e : to_z w32 (of_z w32 c.in-Some.i) ≡ c.in-Some.i = search rules in
+    rw e (not_below _ c.in-Some.i c.requires (sym c.nearest.ensures ∙ c.in-Some.is))
 
-pub returns-in-At : goal.returns-in-At
-returns-in-At c =
-    let e : to_z w32 (of_z w32 c.in-At.i) ≡ c.in-At.i = search rules in
-    along_it _ _ c.in-At.i (sym c.nearest.ensures ∙ c.in-At.is) (c.from_zero.ensures ∙ e)
+pub returns-in-Some : goal.returns-in-Some
+returns-in-Some c =
+    let e : to_z w32 (of_z w32 c.in-Some.i) ≡ c.in-Some.i = search rules in
+    along_it _ _ c.in-Some.i (sym c.nearest.ensures ∙ c.in-Some.is) (c.from_zero.ensures ∙ e)
 
-pub returns-in-Off : goal.returns-in-Off
+pub returns-in-None : goal.returns-in-None
 unfolding along
-returns-in-Off c = rw (← c.nearest.ensures, c.in-Off.is)
+returns-in-None c = rw (← c.nearest.ensures, c.in-None.is)

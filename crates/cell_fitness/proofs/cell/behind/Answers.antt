@@ -4,11 +4,11 @@ use Rattle.cell_fitness.specs.Along.{along}
 use Rattle.cell_fitness.proofs.Places.{place_before}
 use Rattle.cell_fitness.proofs.cell.behind.Goals as goal
 
-pub returns-in-At : goal.returns-in-At
-returns-in-At c =
-    let e = sym c.nearest.ensures ∙ c.in-At.is in
-    place_before _ c.in-At.i c.requires e ∙ sym (ap along e)
+pub returns-in-Some : goal.returns-in-Some
+returns-in-Some c =
+    let e = sym c.nearest.ensures ∙ c.in-Some.is in
+    place_before _ c.in-Some.i c.requires e ∙ sym (ap along e)
 
-pub returns-in-Off : goal.returns-in-Off
+pub returns-in-None : goal.returns-in-None
 unfolding along
-returns-in-Off c = rw (← c.nearest.ensures, c.in-Off.is)
+returns-in-None c = rw (← c.nearest.ensures, c.in-None.is)

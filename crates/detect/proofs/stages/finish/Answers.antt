@@ -1,6 +1,7 @@
 -- `finish` hands a refusal on, or fits the groups and tells what is located. Assumes nothing.
+use Rattle.std.specs.Prelude.{Result}
+use Rattle.refusals.specs.declared.Refusal.{Refusal}
 use mathlib.Core.Path.{refl, ap}
-use Rattle.picture.specs.declared.Verdict.{Verdict}
 use Rattle.laid.specs.Laid.{told}
 use Rattle.groupings.specs.Held.{groups_of}
 use Rattle.detect.specs.Stages.{ungrouped}
@@ -15,13 +16,13 @@ fit_all-located-requires c =
 pub with_locations-requires : goal.with_locations-requires
 with_locations-requires c = c.fit_all-located.ensures.1
 
-pub returns-in-Refused : goal.returns-in-Refused
+pub returns-in-Err : goal.returns-in-Err
 unfolding told
-returns-in-Refused c =
-    (ungrouped _ (ap (λ (v : Verdict). told v (groups_of c.args.found)) c.in-Refused.is) c.refused.ensures.0 refl c.refused.ensures.2, c.refused.ensures.1)
+returns-in-Err c =
+    (ungrouped _ (ap (λ (v : Result (Unit {0}) Refusal). told v (groups_of c.args.found)) c.in-Err.is) refl refl refl, tt)
 
-pub returns-in-Sound : goal.returns-in-Sound
+pub returns-in-Ok : goal.returns-in-Ok
 unfolding told
-returns-in-Sound c =
-    let sound = ap (λ (v : Verdict). told v (groups_of c.args.found)) c.in-Sound.is in
-    (rw c.with_locations.ensures.2 (finish_fits c.args.marks (groups_of c.args.found) (marks_long c.args.marks c.requires.1) sound c.requires.4 c.fit_all-located.ensures.0 c.with_locations.ensures.0), c.with_locations.ensures.1)
+returns-in-Ok c =
+    let sound = ap (λ (v : Result (Unit {0}) Refusal). told v (groups_of c.args.found)) c.in-Ok.is in
+    (finish_fits c.args.marks (groups_of c.args.found) (marks_long c.args.marks c.requires.1) sound c.requires.4 c.fit_all-located.ensures.0 c.with_locations.ensures.0, c.with_locations.ensures.1)

@@ -1,8 +1,9 @@
 -- `gather` hands a refusal on, or groups the stones and finishes. Assumes nothing.
+use Rattle.std.specs.Prelude.{Result}
+use Rattle.refusals.specs.declared.Refusal.{Refusal}
 use mathlib.Core.Path.{refl, ap, subst}
 use Prim.Native.Nat.{ℕ}
 use lib.Seq.{length-take-le}
-use Rattle.picture.specs.declared.Verdict.{Verdict}
 use Rattle.laid.specs.Laid.{told}
 use Rattle.marks.specs.Search.{stones_of}
 use Rattle.groupings.specs.Held.{groups_of}
@@ -17,13 +18,13 @@ finish-requires c =
     let N = subst (λ (k : ℕ). Named k (groups_of c.find_groupings-found.result)) long (array_named c.find_groupings-found.result c.find_groupings-found.ensures.1 c.find_groupings-found.ensures.0) in
     (still_workable c.requires.0 c.find_groupings-found.auto.stack, c.requires.2, c.requires.3, c.find_groupings-found.ensures.1, N, c.find_groupings-found.ensures.2)
 
-pub returns-in-Refused : goal.returns-in-Refused
+pub returns-in-Err : goal.returns-in-Err
 unfolding told
-returns-in-Refused c =
-    (unmarked _ (ap (λ (v : Verdict). told v (stones_of c.args.marks)) c.in-Refused.is) c.refused.ensures.0 refl c.refused.ensures.2, c.refused.ensures.1)
+returns-in-Err c =
+    (unmarked _ (ap (λ (v : Result (Unit {0}) Refusal). told v (stones_of c.args.marks)) c.in-Err.is) refl refl refl, tt)
 
-pub returns-in-Sound : goal.returns-in-Sound
+pub returns-in-Ok : goal.returns-in-Ok
 unfolding told
-returns-in-Sound c =
-    let sound = ap (λ (v : Verdict). told v (stones_of c.args.marks)) c.in-Sound.is in
+returns-in-Ok c =
+    let sound = ap (λ (v : Result (Unit {0}) Refusal). told v (stones_of c.args.marks)) c.in-Ok.is in
     (grouped (stones_of c.args.marks) sound _ c.find_groupings-found.ensures.0 c.finish.ensures.0, c.finish.ensures.1)

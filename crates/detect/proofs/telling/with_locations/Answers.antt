@@ -1,20 +1,22 @@
 -- `with_locations` takes the bounds of what is located, where nothing is refused. Assumes nothing.
-use mathlib.Core.Path.{ap, ◌∙◌}
+use Rattle.std.proofs.lemmas.Result.{err_from_is_err_and}
+use mathlib.Core.Path.{ap}
 use Rattle.laid.specs.Laid.{told}
 use Rattle.detect.specs.Telling.{tells, tells_located}
 use Rattle.detect.proofs.telling.with_locations.Goals as goal
 
-pub bound_all-grids-requires : goal.bound_all-grids-requires
-bound_all-grids-requires c = c.requires.few
-
-pub with_grids-requires : goal.with_grids-requires
-with_grids-requires c = c.bound_all-grids.ensures.1
-
-pub returns-in-Refused : goal.returns-in-Refused
+pub returns-in_err-found : goal.returns-in_err-found
 unfolding told tells_located
-returns-in-Refused c = (rw c.in-Refused.is c.refused.ensures.0, c.refused.ensures.1, c.refused.ensures.2)
+returns-in_err-found c =
+    let p = err_from_is_err_and c.from_residual.result c.from_residual.ensures.1 in
+    (rw (p.1, p.2, c.in_err-found.was), rw p.1 tt)
 
-pub returns-in-Sound : goal.returns-in-Sound
-unfolding told tells_located
-returns-in-Sound c =
-    (rw c.in-Sound.is (c.with_grids.ensures.0 ∙ ap (tells c.args.stones) c.bound_all-grids.ensures.0), c.with_grids.ensures.1, c.with_grids.ensures.2)
+pub returns-in_err-bounded : goal.returns-in_err-bounded
+unfolding told tells tells_located
+returns-in_err-bounded c =
+    let p = err_from_is_err_and c.from_residual-in_err-bounded.result c.from_residual-in_err-bounded.ensures.1 in
+    (rw (p.1, p.2, c.in_ok-found.was) (ap (tells c.args.stones) c.in_err-bounded.ensures.0), rw p.1 tt)
+
+pub returns : goal.returns
+unfolding told tells tells_located
+returns c = (rw c.in_ok-found.was (ap (tells c.args.stones) c.in_ok-bounded.ensures.0), c.in_ok-bounded.ensures.1)

@@ -8,13 +8,13 @@ use Rattle.detect.proofs.whole.detect.Goals as goal
 
 pub detect_kept-requires : goal.detect_kept-requires
 detect_kept-requires c =
-    let passed : first (detect_tests c.args.pic.now c.args.width c.args.height (length c.args.stack.now) (length c.args.scratch.now)) sound ≡ sound = sym c.detectable.ensures ∙ ap judged c.in-Sound.is in
+    let passed : first (detect_tests c.args.pic.now c.args.width c.args.height (length c.args.stack.now) (length c.args.scratch.now)) sound ≡ sound = sym c.detectable.ensures ∙ ap judged c.in-Ok.is in
     passed
 
-pub returns-in-Refused : goal.returns-in-Refused
-returns-in-Refused c = (refuses _ (sym c.detectable.ensures ∙ ap judged c.in-Refused.is) c.refused.ensures.0 refl c.refused.ensures.2, c.refused.ensures.1)
+pub returns-in-Err : goal.returns-in-Err
+returns-in-Err c = (refuses _ (sym c.detectable.ensures ∙ ap judged c.in-Err.is) refl refl refl, tt)
 
-pub returns-in-Sound : goal.returns-in-Sound
-returns-in-Sound c =
-    let passed : first (detect_tests c.args.pic.now c.args.width c.args.height (length c.args.stack.now) (length c.args.scratch.now)) sound ≡ sound = sym c.detectable.ensures ∙ ap judged c.in-Sound.is in
+pub returns-in-Ok : goal.returns-in-Ok
+returns-in-Ok c =
+    let passed : first (detect_tests c.args.pic.now c.args.width c.args.height (length c.args.stack.now) (length c.args.scratch.now)) sound ≡ sound = sym c.detectable.ensures ∙ ap judged c.in-Ok.is in
     (detects (passed) c.detect_kept.ensures.0, c.detect_kept.ensures.1)

@@ -3,16 +3,16 @@ use mathlib.Core.Path.{refl}
 use Rattle.exports_grids.specs.Tells.{status_of, counts_after, floats_after}
 use Rattle.exports_grids.proofs.tell.tell.Goals as goal
 
-pub returns-in-Grid : goal.returns-in-Grid
+pub returns-in-Ok-Some : goal.returns-in-Ok-Some
 unfolding status_of counts_after floats_after
-returns-in-Grid c =
-    rw c.in-Grid.is c.put_grid.ensures
+returns-in-Ok-Some c =
+    rw (c.in-Ok-Some.is, (rw c.in-Ok-Some.is at c.in-Ok-Some.field-0-is)) c.put_grid.ensures
 
-pub returns-in-NoGrid : goal.returns-in-NoGrid
+pub returns-in-Ok-None : goal.returns-in-Ok-None
 unfolding status_of counts_after floats_after
-returns-in-NoGrid c =
-    rw c.in-NoGrid.is (c.put_none.ensures.0, c.put_none.ensures.1, refl)
+returns-in-Ok-None c =
+    rw (c.in-Ok-None.is, (rw c.in-Ok-None.is at c.in-Ok-None.field-0-is)) (c.put_none.ensures.0, c.put_none.ensures.1, refl)
 
-pub returns-in-Refused : goal.returns-in-Refused
+pub returns-in-Err : goal.returns-in-Err
 unfolding status_of counts_after floats_after
-returns-in-Refused c = rw c.in-Refused.is (c.number_of.ensures, refl, refl)
+returns-in-Err c = rw c.in-Err.is (c.from.ensures, refl, refl)

@@ -4,4 +4,4 @@ use Rattle.exports_ranking.proofs.lent.stone_at.Goals as goal
 
 pub returns : goal.returns
 unfolding lent_stone
-returns c = rw (c.perspective_at-c.ensures, c.center_at-center.ensures)
+returns c = rw (c.perspective_at-c.ensures, c.point_at-center.ensures)

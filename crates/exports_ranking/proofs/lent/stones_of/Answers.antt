@@ -1,20 +1,11 @@
--- `stones_of` stores the lent stones one after the other. Assumes nothing.
-use native.Mathlib.Omega.{arith}
-use mathlib.Core.Path.{◌≡◌, sym, ◌∙◌}
-use Rattle.exports_ranking.proofs.Stored.{filled_none, filled_more, filled_all}
+-- `stones_of` makes an array of what `stone_at` reads. Assumes nothing.
+use borrow.Author.Rules.{rules}
+use borrow.Author.Tests.{tests}
+use Rattle.capstones.specs.Blank.{no_stone}
+use Rattle.told_places.proofs.Made.{made_all}
+use Rattle.exports_ranking.specs.Ranks.{lent_stone}
 use Rattle.exports_ranking.proofs.lent.stones_of.Goals as goal
-
-pub loop-k-init : goal.loop-k-init
-loop-k-init c = (c.blanks-stones.ensures ∙ sym (filled_none _ _), omega arith)
-
-pub stone_at-stone-requires : goal.stone_at-stone-requires
-stone_at-stone-requires c = (c.loop-k-test.true, c.requires.0, c.requires.1)
-
-pub loop-k-preserved : goal.loop-k-preserved
-loop-k-preserved c =
-    (rw (c.stone_at-stone.ensures, c.loop-k.invariant.0) (filled_more _ _ c.loop-k.k c.loop-k-test.true), omega (arith, c.loop-k-test.true))
 
 pub returns : goal.returns
 returns c =
-    let all : c.loop-k.k ≡ 64 = omega (arith, c.loop-k.invariant.1, c.loop-k-test.false) in
-    c.loop-k.invariant.0 ∙ rw all (filled_all _ _)
+    made_all (lent_stone c.args.centers.now c.args.floats.now) (λ k y q call. search (rules, tests)) no_stone c.from_fn.ensures.items

@@ -3,11 +3,11 @@ use borrow.Author.Rules.{rules}
 use Rattle.exports_ranking.specs.Ranks.{status_of, count_put}
 use Rattle.exports_ranking.proofs.pairs.put_answer.Goals as goal
 
-pub returns-in-Pairs : goal.returns-in-Pairs
+pub returns-in-Ok : goal.returns-in-Ok
 unfolding count_put status_of
-returns-in-Pairs c =
-    rw c.in-Pairs.is c.put_count.ensures
+returns-in-Ok c =
+    rw c.in-Ok.is c.put_count.ensures
 
-pub returns-in-Refused : goal.returns-in-Refused
+pub returns-in-Err : goal.returns-in-Err
 unfolding count_put status_of
-returns-in-Refused c = search rules
+returns-in-Err c = search rules

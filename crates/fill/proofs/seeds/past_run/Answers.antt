@@ -1,20 +1,10 @@
--- `past_run` answers the first column that shows another byte: at each turn the one from where it stands is the one from x. Assumes nothing.
-use Prim.Native.Nat.{◌-◌}
-use native.Mathlib.Omega.{arith}
-use mathlib.Core.Path.{refl, sym, ◌∙◌}
-use Rattle.fill.proofs.Stretches.{run_none, run_here, run_on}
+-- `past_run` answers the first column that shows another byte. Assumes nothing.
+use Rattle.std.proofs.Common.{arith, rules, ◌≡◌, ◌+◌, ◌-◌, ◌<◌, ◌≤◌, ℕ, get_or}
+use Rattle.fill.proofs.Stretches.{run_is}
 use Rattle.fill.proofs.seeds.past_run.Goals as goal
 
-pub loop-k-init : goal.loop-k-init
-loop-k-init c = (refl, omega arith)
-
-pub returns-then-pic-base : goal.returns-then-pic-base
-returns-then-pic-base c =
-    let n = c.args.end - c.loop-k.k in
-    sym (c.loop-k.invariant.0 ∙ run_here _ _ _ c.loop-k.k n (n - 1) (omega arith) c.if-pic-base.true)
-
-pub loop-k-preserved : goal.loop-k-preserved
-loop-k-preserved c = (c.loop-k.invariant.0 ∙ run_on _ _ _ _ _ _ _ (omega arith) (omega arith) c.if-pic-base.false, omega arith)
-
 pub returns : goal.returns
-returns c = sym (c.loop-k.invariant.0 ∙ run_none _ _ _ _ _ (omega arith))
+returns c =
+    let before : (k : ℕ) → c.args.x ≤ k → k < c.first_column.result → get_or c.args.pic.now (c.args.base + k) 0 ≡ c.args.from = λ k a b. let t = c.first_column.ensures.before k a b in search rules in
+    let shown : c.first_column.result < c.args.end → get_or c.args.pic.now (c.args.base + c.first_column.result) 0 ≡ c.args.from → ⊥ = λ a. let t = c.first_column.ensures.shown a in search rules in
+    run_is _ _ _ (c.args.end - c.args.x) c.args.x c.args.end _ (omega arith) (omega arith) (omega arith) before shown

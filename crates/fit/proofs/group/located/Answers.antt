@@ -2,14 +2,14 @@
 use Rattle.fit.specs.Fit.{located_by}
 use Rattle.fit.proofs.group.located.Goals as goal
 
-pub returns-in-At : goal.returns-in-At
+pub returns-in-Ok-Some : goal.returns-in-Ok-Some
 unfolding located_by
-returns-in-At c = (rw c.in-At.is c.set_up.ensures.0, c.set_up.ensures.1)
+returns-in-Ok-Some c = (rw (c.in-Ok-Some.is, (rw c.in-Ok-Some.is at c.in-Ok-Some.field-0-is)) c.set_up.ensures.0, c.set_up.ensures.1)
 
-pub returns-in-Nowhere : goal.returns-in-Nowhere
+pub returns-in-Ok-None : goal.returns-in-Ok-None
 unfolding located_by
-returns-in-Nowhere c = (rw c.in-Nowhere.is, c.requires.fact_3)
+returns-in-Ok-None c = (rw (c.in-Ok-None.is, (rw c.in-Ok-None.is at c.in-Ok-None.field-0-is)), c.requires.fact_3)
 
-pub returns-in-Refused : goal.returns-in-Refused
+pub returns-in-Err : goal.returns-in-Err
 unfolding located_by
-returns-in-Refused c = (rw c.in-Refused.is, c.requires.fact_3)
+returns-in-Err c = (rw c.in-Err.is, c.requires.fact_3)

@@ -1,28 +1,28 @@
 -- `is_along` goes by the sign, and then by the side's end. Assumes nothing.
-use mathlib.Core.Path.{◌≡◌, sym, ap, ◌∙◌}
+use Prim.Native.Nat.{ℕ}
+use mathlib.Core.Path.{◌≡◌, refl, sym}
+use mathlib.Core.Bool.{true, false, true≢false}
 use native.Mathlib.Omega.{arith}
-use lib.IntN.{pos, nat_abs}
 use lib.Dec.{ltb}
-use mir.Syntax.{w32}
-use mir.Val.{to_z, of_z}
+use lib.IntN.{ℤ, pos, negsuc, nat_abs}
+use lib.Signed.{le_z}
+use borrow.Author.Tests.{leb-false}
 use mir.Facts.{to_z-of_z}
-use Rattle.sizes.proofs.Size.{from_zero, size_fits}
 use Rattle.fit.specs.Tests.{along}
-use Rattle.fit.proofs.Taken.{below}
 use Rattle.fit.proofs.ladder.is_along.Goals as goal
 
-pub returns-then-z-lt0 : goal.returns-then-z-lt0
-returns-then-z-lt0 c = sym (below _ _ (rw (to_z-of_z c.ranges.z) at c.if-z-lt0.true))
-
-pub overflow_cast-n : goal.overflow_cast-n
-overflow_cast-n c =
-    let is_size : c.args.z ≡ pos (nat_abs c.args.z) = from_zero _ (rw (to_z-of_z c.ranges.z) at c.if-z-lt0.false) in
-    let read : to_z w32 (of_z w32 c.args.z) ≡ pos (nat_abs c.args.z) = to_z-of_z c.ranges.z ∙ is_size in
-    let few = size_fits c.ranges.z in rw (read) (tt, record { fits = omega arith })
-
-pub returns : goal.returns
+size_along : (side : ℕ) (z : ℤ) → le_z (pos 0) z ≡ true → ltb (nat_abs z) side ≡ along side z
 unfolding along
-returns c =
-    let is_size : c.args.z ≡ pos (nat_abs c.args.z) = from_zero _ (rw (to_z-of_z c.ranges.z) at c.if-z-lt0.false) in
-    let read : to_z w32 (of_z w32 c.args.z) ≡ pos (nat_abs c.args.z) = to_z-of_z c.ranges.z ∙ is_size in
-    ap (λ n. ltb n c.args.side) (ap nat_abs (read)) ∙ sym (ap (along c.args.side) (is_size))
+size_along side (pos n) h = refl
+size_along side (negsuc n) h = absurd (true≢false (sym h))
+
+below : (side : ℕ) (z : ℤ) → le_z (pos 0) z ≡ false → le_z (pos 0) z ≡ along side z
+unfolding along
+below side (pos n) h = let k = leb-false 0 n h in absurd (omega arith)
+below side (negsuc n) h = refl
+
+pub returns-then-z-ge0 : goal.returns-then-z-ge0
+returns-then-z-ge0 c = rw (to_z-of_z c.ranges.z) (size_along _ _ (rw (to_z-of_z c.ranges.z) at c.if-z-ge0.true))
+
+pub returns-else-z-ge0 : goal.returns-else-z-ge0
+returns-else-z-ge0 c = rw (to_z-of_z c.ranges.z) (below _ _ (rw (to_z-of_z c.ranges.z) at c.if-z-ge0.false))

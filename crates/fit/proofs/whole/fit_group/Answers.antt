@@ -10,16 +10,16 @@ use Rattle.fit.proofs.whole.fit_group.Goals as goal
 
 pub fit_kept-requires : goal.fit_kept-requires
 fit_kept-requires c =
-    let passed : first (fit_tests c.args.width c.args.height (length c.args.pic.now) (length c.args.stack.now) (length c.args.scratch.now) c.args.table c.args.group) sound ≡ sound = sym c.fittable.ensures ∙ ap judged c.in-Sound.is in
+    let passed : first (fit_tests c.args.width c.args.height (length c.args.pic.now) (length c.args.stack.now) (length c.args.scratch.now) c.args.table c.args.group) sound ≡ sound = sym c.fittable.ensures ∙ ap judged c.in-Ok.is in
     let F = fittable _ _ _ _ _ _ _ (passed) in
     (F.workable, F.scratch, F.centred, F.cornered)
 
-pub returns-in-Refused : goal.returns-in-Refused
-returns-in-Refused c =
-    let is = sym c.fittable.ensures ∙ ap judged c.in-Refused.is in
+pub returns-in-Err : goal.returns-in-Err
+returns-in-Err c =
+    let is = sym c.fittable.ensures ∙ ap judged c.in-Err.is in
     refuses _ refl is refl refl
 
-pub returns-in-Sound : goal.returns-in-Sound
-returns-in-Sound c =
-    let passed : first (fit_tests c.args.width c.args.height (length c.args.pic.now) (length c.args.stack.now) (length c.args.scratch.now) c.args.table c.args.group) sound ≡ sound = sym c.fittable.ensures ∙ ap judged c.in-Sound.is in
+pub returns-in-Ok : goal.returns-in-Ok
+returns-in-Ok c =
+    let passed : first (fit_tests c.args.width c.args.height (length c.args.pic.now) (length c.args.stack.now) (length c.args.scratch.now) c.args.table c.args.group) sound ≡ sound = sym c.fittable.ensures ∙ ap judged c.in-Ok.is in
     fits (passed) c.fit_kept.ensures

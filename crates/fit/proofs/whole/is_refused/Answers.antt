@@ -2,14 +2,14 @@
 use Rattle.fit.specs.Fit.{is_refusal}
 use Rattle.fit.proofs.whole.is_refused.Goals as goal
 
-pub returns-in-Grid : goal.returns-in-Grid
+pub returns-in-Ok-Some : goal.returns-in-Ok-Some
 unfolding is_refusal
-returns-in-Grid c = rw c.in-Grid.is
+returns-in-Ok-Some c = rw (c.in-Ok-Some.is, (rw c.in-Ok-Some.is at c.in-Ok-Some.field-0-is))
 
-pub returns-in-NoGrid : goal.returns-in-NoGrid
+pub returns-in-Ok-None : goal.returns-in-Ok-None
 unfolding is_refusal
-returns-in-NoGrid c = rw c.in-NoGrid.is
+returns-in-Ok-None c = rw (c.in-Ok-None.is, (rw c.in-Ok-None.is at c.in-Ok-None.field-0-is))
 
-pub returns-in-Refused : goal.returns-in-Refused
+pub returns-in-Err : goal.returns-in-Err
 unfolding is_refusal
-returns-in-Refused c = rw c.in-Refused.is
+returns-in-Err c = rw c.in-Err.is

@@ -6,9 +6,6 @@ use Rattle.cell_fitness.specs.Scores.{Scores}
 use Rattle.fitness.specs.Fitness.{score_of}
 use Rattle.fitness.proofs.alignment.fitness_column.Given as goal
 
-abbrev pub invariant-loop-j : goal.invariant-loop-j
-invariant-loop-j l =
-    (l.j ≤ l.n - 1) × Scores (score_of l.pic l.width l.height l.c (each l.j (λ j. pattern l.cx (position_of l.version (1 + j))))) (225 * l.j) l.score
-
-abbrev pub decreases-loop-j : goal.decreases-loop-j
-decreases-loop-j l = l.n - l.j
+abbrev pub invariant-loop-k : goal.invariant-loop-k
+invariant-loop-k l =
+    (l.k - 1 ≤ l.n - 1) × Scores (score_of l.pic l.width l.height l.c (each (l.k - 1) (λ i. pattern l.cx (position_of l.version (1 + i))))) (225 * (l.k - 1)) l.score

@@ -6,9 +6,6 @@ use Rattle.cell_fitness.specs.Scores.{Scores}
 use Rattle.fitness.specs.Fitness.{score_of}
 use Rattle.fitness.proofs.alignment.fitness_columns.Given as goal
 
-abbrev pub invariant-loop-i : goal.invariant-loop-i
-invariant-loop-i l =
-    (l.i ≤ l.n - 1) × Scores (score_of l.pic l.width l.height l.c (each l.i (λ i. column l.version (position_of l.version (1 + i))))) (1350 * l.i) l.score
-
-abbrev pub decreases-loop-i : goal.decreases-loop-i
-decreases-loop-i l = l.n - l.i
+abbrev pub invariant-loop-k : goal.invariant-loop-k
+invariant-loop-k l =
+    (l.k - 1 ≤ l.n - 1) × Scores (score_of l.pic l.width l.height l.c (each (l.k - 1) (λ i. column l.version (position_of l.version (1 + i))))) (1350 * (l.k - 1)) l.score

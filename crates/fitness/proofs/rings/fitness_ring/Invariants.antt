@@ -1,5 +1,5 @@
 -- `fitness_ring` goes once round: a turn of the loop adds one cell on each side. Assumes nothing.
-use Prim.Native.Nat.{◌-◌, ◌*◌, ◌≤◌}
+use Prim.Native.Nat.{◌*◌}
 use Rattle.fitness.specs.Expected.{dark, each, sides}
 use Rattle.cell_fitness.specs.Scores.{Scores}
 use Rattle.fitness.specs.Fitness.{score_of}
@@ -7,7 +7,4 @@ use Rattle.fitness.proofs.rings.fitness_ring.Given as goal
 
 abbrev pub invariant-loop-i : goal.invariant-loop-i
 invariant-loop-i l =
-    (l.i ≤ 2 * l.radius) × Scores (score_of l.pic l.width l.height l.c (each l.i (sides dark l.cx l.cy l.radius))) (36 * l.i) l.score
-
-abbrev pub decreases-loop-i : goal.decreases-loop-i
-decreases-loop-i l = 2 * l.radius - l.i
+    Scores (score_of l.pic l.width l.height l.c (each l.i (sides dark l.cx l.cy l.radius))) (36 * l.i) l.score

@@ -6,19 +6,19 @@ use Rattle.geometry.specs.Map.{placed}
 use borrow.Author.Rules.{rules}
 use Rattle.geometry.proofs.map.place.Goals as goal
 
-pub returns-in-At-down : goal.returns-in-At-down
+pub returns-in_err-nearest : goal.returns-in_err-nearest
 unfolding placed
-returns-in-At-down c =
-    let ex : to_z w32 (of_z w32 c.in-At.i) ≡ c.in-At.i = search rules in
-    let ey : to_z w32 (of_z w32 c.in-At-down.j) ≡ c.in-At-down.j = search rules in
-    rw (← c.nearest-across.ensures, ← c.nearest-down.ensures, c.in-At.is, c.in-At-down.is, ex, ey)
+returns-in_err-nearest c =
+    rw (c.from_residual.ensures, ← c.nearest.ensures, c.in_err-nearest.was)
 
-pub returns-in-Off-down : goal.returns-in-Off-down
+pub returns-in_err-nearest-2 : goal.returns-in_err-nearest-2
 unfolding placed
-returns-in-Off-down c =
-    rw (← c.nearest-across.ensures, ← c.nearest-down.ensures, c.in-At.is, c.in-Off-down.is)
+returns-in_err-nearest-2 c =
+    rw (c.from_residual-in_err-nearest-2.ensures, ← c.nearest.ensures, ← c.nearest-2.ensures, c.in_ok-nearest.was, c.in_err-nearest-2.was)
 
-pub returns-in-Off : goal.returns-in-Off
+pub returns : goal.returns
 unfolding placed
-returns-in-Off c =
-    rw (← c.nearest-across.ensures, c.in-Off.is)
+returns c =
+    let ex : to_z w32 (of_z w32 c.in_ok-nearest.field-0) ≡ c.in_ok-nearest.field-0 = search rules in
+    let ey : to_z w32 (of_z w32 c.in_ok-nearest-2.field-0) ≡ c.in_ok-nearest-2.field-0 = search rules in
+    rw (← c.nearest.ensures, ← c.nearest-2.ensures, c.in_ok-nearest.was, c.in_ok-nearest-2.was, ex, ey)

@@ -5,6 +5,7 @@ use mathlib.Core.Path.{◌≡◌, refl, sym, ◌∙◌, subst}
 use lib.ListN.{length, take}
 use lib.Seq.{length-take-le}
 use borrow.Author.Rules.{rules}
+use Rattle.laid.specs.Laid.{told}
 use Rattle.setups.proofs.Known.{blanks_remember}
 use Rattle.groupings.specs.Held.{groups_of, Counted}
 use Rattle.groupings.proofs.Copy.{still_workable}
@@ -12,7 +13,8 @@ use Rattle.groupings.proofs.Going.{centres_begin, centres_end, centres_stop, cen
 use Rattle.groupings.proofs.centres.find_groupings.Goals as goal
 
 pub loop-idx-init : goal.loop-idx-init
-loop-idx-init c = (centres_begin c.no_groups-sofar.result c.no_groups-sofar.ensures.0 c.no_groups-sofar.ensures.1, omega arith, refl, refl, blanks_remember 31 c.no_groups-sofar.ensures.2)
+unfolding told
+loop-idx-init c = (centres_begin c.none-sofar.result c.none-sofar.ensures.0 c.none-sofar.ensures.1, omega arith, refl, refl, blanks_remember 31 c.none-sofar.ensures.2)
 
 pub try_centre-sofar-requires : goal.try_centre-sofar-requires
 try_centre-sofar-requires c =

@@ -24,22 +24,22 @@ try_pairs-requires c =
     let free = sym c.is_used.ensures ∙ c.if-is_used.false in (
       c.requires.0,
       c.requires.1,
-      count_few c.args.stones c.args.n c.args.idx c.requires.2.few (whole) c.requires.3 c.find_and_rank_possible_neighbors-ranked.result c.find_and_rank_possible_neighbors-ranked.ensures _ c.in-Pairs.is,
-      (λ k low. triable c.args.stones c.requires.3 (each_proper c.args.stones c.args.n c.args.idx c.requires.2.few (whole) c.requires.3 c.find_and_rank_possible_neighbors-ranked.result c.find_and_rank_possible_neighbors-ranked.ensures _ c.in-Pairs.is k low) c.requires.2),
+      count_few c.args.stones c.args.n c.args.idx c.requires.2.few (whole) c.requires.3 c.find_and_rank_possible_neighbors-ranked.result c.find_and_rank_possible_neighbors-ranked.ensures _ c.in-Ok.is,
+      (λ k low. triable c.args.stones c.requires.3 (each_proper c.args.stones c.args.n c.args.idx c.requires.2.few (whole) c.requires.3 c.find_and_rank_possible_neighbors-ranked.result c.find_and_rank_possible_neighbors-ranked.ensures _ c.in-Ok.is k low) c.requires.2),
       c.requires.4,
       beside_wider c.requires.2.few (beside_unused c.requires.5 free c.requires.3),
       c.requires.6,
     )
 
-pub returns-in-Pairs : goal.returns-in-Pairs
-returns-in-Pairs c =
+pub returns-in-Ok : goal.returns-in-Ok
+returns-in-Ok c =
     let long : length c.args.stones ≡ 64 = search rules in
     let whole : c.args.n ≤ length c.args.stones = omega (arith, long, c.requires.2.few) in
     let free = sym c.is_used.ensures ∙ c.if-is_used.false in
-    (with_pairs free (from_array c.args.stones c.args.n c.args.idx c.requires.2.few (whole) c.requires.3 c.find_and_rank_possible_neighbors-ranked.result c.find_and_rank_possible_neighbors-ranked.ensures _ c.in-Pairs.is c.try_pairs.ensures.0), c.try_pairs.ensures.1, c.try_pairs.ensures.2)
+    (with_pairs free (from_array c.args.stones c.args.n c.args.idx c.requires.2.few (whole) c.requires.3 c.find_and_rank_possible_neighbors-ranked.result c.find_and_rank_possible_neighbors-ranked.ensures _ c.in-Ok.is c.try_pairs.ensures.0), c.try_pairs.ensures.1, c.try_pairs.ensures.2)
 
-pub returns-in-Refused : goal.returns-in-Refused
-returns-in-Refused c =
+pub returns-in-Err : goal.returns-in-Err
+returns-in-Err c =
     let long : length c.args.stones ≡ 64 = search rules in
     let whole : c.args.n ≤ length c.args.stones = omega (arith, long, c.requires.2.few) in
-    absurd (not_refused c.args.stones c.args.n c.args.idx c.requires.2.few (whole) c.requires.3 c.find_and_rank_possible_neighbors-ranked.result c.find_and_rank_possible_neighbors-ranked.ensures _ c.in-Refused.is)
+    absurd (not_refused c.args.stones c.args.n c.args.idx c.requires.2.few (whole) c.requires.3 c.find_and_rank_possible_neighbors-ranked.result c.find_and_rank_possible_neighbors-ranked.ensures _ c.in-Err.is)

@@ -1,44 +1,34 @@
 -- `rotate_group` turns the three stones in their order, and refuses at the first that is flat. Assumes nothing.
 use mathlib.Core.Path.{sym, ap, ◌∙◌}
-use borrow.Author.Rules.{rules}
 use Rattle.groups.specs.Turn as turn
 use Rattle.groups.specs.Rotate.{gathered, rotated_group}
 use Rattle.groups.proofs.rotating.rotate_group.Goals as goal
 
-pub rotate_capstone-requires : goal.rotate_capstone-requires
-rotate_capstone-requires c = record { fact_1 = search rules; fact_2 = search rules; fact_3 = search rules }
-
-pub returns-in_default : goal.returns-in_default
+pub returns-in_err-first : goal.returns-in_err-first
 unfolding rotated_group gathered
-returns-in_default c =
-    let flat = sym c.rotate_capstone.ensures ∙ ap turn.meaning c.in_default.is in
-    rw flat
+returns-in_err-first c =
+    let flat = sym c.rotate_capstone.ensures ∙ ap turn.meaning c.in_err-first.was in
+    rw (c.from_residual.ensures, flat)
 
-pub rotate_capstone-requires-2 : goal.rotate_capstone-requires-2
-rotate_capstone-requires-2 c = record { fact_1 = search rules; fact_2 = search rules; fact_3 = search rules }
-
-pub returns-in_default-rotate_capstone : goal.returns-in_default-rotate_capstone
+pub returns-in_err-second : goal.returns-in_err-second
 unfolding rotated_group gathered
-returns-in_default-rotate_capstone c =
-    let first = sym c.rotate_capstone.ensures ∙ ap turn.meaning c.in-Stone.is in
-    let flat = sym c.rotate_capstone-2.ensures ∙ ap turn.meaning c.in_default-rotate_capstone.is in
-    rw (first, flat)
+returns-in_err-second c =
+    let first = sym c.rotate_capstone.ensures ∙ ap turn.meaning c.in_ok-first.was in
+    let flat = sym c.rotate_capstone-2.ensures ∙ ap turn.meaning c.in_err-second.was in
+    rw (c.from_residual-in_err-second.ensures, first, flat)
 
-pub rotate_capstone-requires-3 : goal.rotate_capstone-requires-3
-rotate_capstone-requires-3 c = record { fact_1 = search rules; fact_2 = search rules; fact_3 = search rules }
-
-pub returns-in_default-rotate_capstone-2 : goal.returns-in_default-rotate_capstone-2
+pub returns-in_err-third : goal.returns-in_err-third
 unfolding rotated_group gathered
-returns-in_default-rotate_capstone-2 c =
-    let first = sym c.rotate_capstone.ensures ∙ ap turn.meaning c.in-Stone.is in
-    let second = sym c.rotate_capstone-2.ensures ∙ ap turn.meaning c.in-Stone-rotate_capstone.is in
-    let flat = sym c.rotate_capstone-3.ensures ∙ ap turn.meaning c.in_default-rotate_capstone-2.is in
-    rw (first, second, flat)
+returns-in_err-third c =
+    let first = sym c.rotate_capstone.ensures ∙ ap turn.meaning c.in_ok-first.was in
+    let second = sym c.rotate_capstone-2.ensures ∙ ap turn.meaning c.in_ok-second.was in
+    let flat = sym c.rotate_capstone-3.ensures ∙ ap turn.meaning c.in_err-third.was in
+    rw (c.from_residual-in_err-third.ensures, first, second, flat)
 
 pub returns : goal.returns
 unfolding rotated_group gathered
 returns c =
-    let first = sym c.rotate_capstone.ensures ∙ ap turn.meaning c.in-Stone.is in
-    let second = sym c.rotate_capstone-2.ensures ∙ ap turn.meaning c.in-Stone-rotate_capstone.is in
-    let third = sym c.rotate_capstone-3.ensures ∙ ap turn.meaning c.in-Stone-rotate_capstone-2.is in
+    let first = sym c.rotate_capstone.ensures ∙ ap turn.meaning c.in_ok-first.was in
+    let second = sym c.rotate_capstone-2.ensures ∙ ap turn.meaning c.in_ok-second.was in
+    let third = sym c.rotate_capstone-3.ensures ∙ ap turn.meaning c.in_ok-third.was in
     rw (first, second, third)

@@ -17,9 +17,9 @@ pub advance-requires : goal.advance-requires
 advance-requires c =
     (c.loop-y.invariant.on, c.requires.0.wide, line_fits c.args.width c.args.height c.args.pic.now c.requires.0.whole c.loop-y.y c.loop-y-test.true)
 
-pub returns-in-Cut : goal.returns-in-Cut
-returns-in-Cut c =
-    pending_cut c.loop-y.invariant c.loop-y-test.true (subst (Comes _ _ _ _) c.in-Cut.is c.advance.ensures)
+pub returns-in-Some : goal.returns-in-Some
+returns-in-Some c =
+    pending_cut c.loop-y.invariant c.loop-y-test.true (subst (Comes _ _ _ _) c.in-Some.is c.advance.ensures)
 
 pub next_line-y-requires : goal.next_line-y-requires
 next_line-y-requires c =
@@ -30,7 +30,7 @@ loop-y-smaller c = omega (arith, c.loop-y-test.true, next_from _ _ _ _ c.next_li
 
 pub loop-y-preserved : goal.loop-y-preserved
 loop-y-preserved c =
-    pending_down c.loop-y.invariant c.loop-y-test.true (subst (Comes _ _ _ _) c.in-Done.is c.advance.ensures) c.next_line-y.ensures c.new-scan.ensures
+    pending_down c.loop-y.invariant c.loop-y-test.true (subst (Comes _ _ _ _) c.in-None.is c.advance.ensures) c.next_line-y.ensures c.new-scan.ensures
 
 pub returns : goal.returns
 returns c = pending_ends c.loop-y.invariant c.loop-y-test.false

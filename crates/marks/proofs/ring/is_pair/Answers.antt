@@ -5,24 +5,37 @@ use Rattle.marks.specs.Ring.{paired}
 use Rattle.marks.proofs.ring.is_pair.Goals as goal
 
 pub is_suited-requires : goal.is_suited-requires
-is_suited-requires c = (c.requires.0 _ (ap meaning c.in-Unclaimed.is), c.requires.1 _ (ap meaning c.in-Unclaimed-inner.is))
+is_suited-requires c =
+    let ring = rw c.in-Ok-Unclaimed.is at c.in-Ok-Unclaimed.field-0-is in
+    let stone = rw c.in-Ok-Unclaimed-inner.is at c.in-Ok-Unclaimed-inner.field-0-is in
+    (c.requires.0 _ (ap meaning (rw ring at c.in-Ok-Unclaimed.is)), c.requires.1 _ (ap meaning (rw stone at c.in-Ok-Unclaimed-inner.is)))
 
-pub returns-in-Unclaimed-inner : goal.returns-in-Unclaimed-inner
+pub returns-in-Ok-Unclaimed-inner : goal.returns-in-Ok-Unclaimed-inner
 unfolding paired
-returns-in-Unclaimed-inner c = rw (c.in-Unclaimed.is, c.in-Unclaimed-inner.is) c.is_suited.ensures
+returns-in-Ok-Unclaimed-inner c =
+    let ring = rw c.in-Ok-Unclaimed.is at c.in-Ok-Unclaimed.field-0-is in
+    let stone = rw c.in-Ok-Unclaimed-inner.is at c.in-Ok-Unclaimed-inner.field-0-is in
+    rw (c.in-Ok-Unclaimed.is, ring, c.in-Ok-Unclaimed-inner.is, stone) c.is_suited.ensures
 
-pub returns-in-Claimed-inner : goal.returns-in-Claimed-inner
+pub returns-in-Ok-Claimed-inner : goal.returns-in-Ok-Claimed-inner
 unfolding paired
-returns-in-Claimed-inner c = rw (c.in-Unclaimed.is, c.in-Claimed-inner.is)
+returns-in-Ok-Claimed-inner c =
+    let ring = rw c.in-Ok-Unclaimed.is at c.in-Ok-Unclaimed.field-0-is in
+    let stone = rw c.in-Ok-Claimed-inner.is at c.in-Ok-Claimed-inner.field-0-is in
+    rw (c.in-Ok-Unclaimed.is, ring, c.in-Ok-Claimed-inner.is, stone)
 
-pub returns-in-Refused-inner : goal.returns-in-Refused-inner
+pub returns-in-Err-inner : goal.returns-in-Err-inner
 unfolding paired
-returns-in-Refused-inner c = rw (c.in-Unclaimed.is, c.in-Refused-inner.is)
+returns-in-Err-inner c =
+    let ring = rw c.in-Ok-Unclaimed.is at c.in-Ok-Unclaimed.field-0-is in
+    rw (c.in-Ok-Unclaimed.is, ring, c.in-Err-inner.is)
 
-pub returns-in-Claimed : goal.returns-in-Claimed
+pub returns-in-Ok-Claimed : goal.returns-in-Ok-Claimed
 unfolding paired
-returns-in-Claimed c = rw c.in-Claimed.is
+returns-in-Ok-Claimed c =
+    let ring = rw c.in-Ok-Claimed.is at c.in-Ok-Claimed.field-0-is in
+    rw (c.in-Ok-Claimed.is, ring)
 
-pub returns-in-Refused : goal.returns-in-Refused
+pub returns-in-Err : goal.returns-in-Err
 unfolding paired
-returns-in-Refused c = rw c.in-Refused.is
+returns-in-Err c = rw c.in-Err.is

@@ -10,8 +10,8 @@ use Rattle.marks.proofs.stone.ring_corners.Goals as goal
 pub point_at-start-requires : goal.point_at-start-requires
 point_at-start-requires c = seed_low c.requires
 
-pub fill_first_corner-first-requires : goal.fill_first_corner-first-requires
-fill_first_corner-first-requires c =
+pub fill_and_find-first-requires : goal.fill_and_find-first-requires
+fill_and_find-first-requires c =
     record {
       fact_1 = fill_four c.requires;
       fact_2 = ring_sides c.requires;
@@ -24,19 +24,19 @@ new-finders-requires c =
     record {
       fact_1 = rw c.point_at-start.ensures (seed_within c.requires);
       fact_2 =
-          rw (c.fill_first_corner-first.ensures.1, c.new-finder.ensures, c.point_at-start.ensures)
+          rw (c.fill_and_find-first.ensures.1, c.new-finder.ensures, c.point_at-start.ensures)
           (corner_within c.requires);
     }
 
-pub fill_all_corners-requires : goal.fill_all_corners-requires
+pub fill_and_find-requires : goal.fill_and_find-requires
 unfolding first_corner
-fill_all_corners-requires c =
-    let room_after : length c.args.stack.now ≤ length c.fill_first_corner-first.new.stack = omega (arith, c.fill_first_corner-first.auto.stack) in
+fill_and_find-requires c =
+    let room_after : length c.args.stack.now ≤ length c.fill_and_find-first.new.stack = omega (arith, c.fill_and_find-first.auto.stack) in
     record {
-      fact_1 = fill_two c.requires c.fill_first_corner-first.ensures.0 room_after;
+      fact_1 = fill_two c.requires c.fill_and_find-first.ensures.0 room_after;
       fact_2 = ring_sides c.requires;
       fact_3 =
-          rw (c.new-finders.ensures, c.fill_first_corner-first.ensures.1, c.new-finder.ensures, c.point_at-start.ensures)
+          rw (c.new-finders.ensures, c.fill_and_find-first.ensures.1, c.new-finder.ensures, c.point_at-start.ensures)
           (all_corners_ready (seed_within c.requires) (corner_within c.requires));
     }
 
@@ -45,13 +45,13 @@ unfolding first_corner
 returns c =
     record {
       between = _;
-      four = c.fill_first_corner-first.ensures.0;
-      two = c.fill_all_corners.ensures.0;
+      four = c.fill_and_find-first.ensures.0;
+      two = c.fill_and_find.ensures.0;
       are =
           rw (
-            c.fill_all_corners.ensures.1,
+            c.fill_and_find.ensures.1,
             c.new-finders.ensures,
-            c.fill_first_corner-first.ensures.1,
+            c.fill_and_find-first.ensures.1,
             c.new-finder.ensures,
             c.point_at-start.ensures,
           );

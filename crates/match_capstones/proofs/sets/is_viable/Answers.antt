@@ -7,6 +7,6 @@ pub returns-then-score : goal.returns-then-score
 unfolding viable of_bits
 returns-then-score c = rw c.if-score.true
 
-pub returns : goal.returns
+pub returns-else-score : goal.returns-else-score
 unfolding viable of_bits
-returns c = rw (c.if-score.false, c.is_nan.ensures)
+returns-else-score c = rw (c.if-score.false, c.is_nan.ensures.value)

@@ -1,5 +1,4 @@
 -- `ranks_before` compares two scores, the second of which may be no number. Assumes nothing.
-use mathlib.Core.Path.{sym, ◌∙◌}
 use Rattle.match_capstones.specs.Order.{ranks_before}
 use Rattle.match_capstones.proofs.sort.ranks_before.Goals as goal
 
@@ -7,10 +6,11 @@ pub returns-then-a-b : goal.returns-then-a-b
 unfolding ranks_before
 returns-then-a-b c = rw c.if-a-b.true
 
-pub returns-then-is_nan : goal.returns-then-is_nan
+pub returns-then-not-is_nan : goal.returns-then-not-is_nan
 unfolding ranks_before
-returns-then-is_nan c = rw (c.if-a-b.false, sym c.is_nan.ensures ∙ c.if-is_nan.true)
+returns-then-not-is_nan c =
+    rw (c.if-a-b.false, ← c.is_nan.ensures.value, c.if-not-is_nan.true, c.is_nan-then-not-is_nan.ensures.value)
 
-pub returns : goal.returns
+pub returns-else-not-is_nan : goal.returns-else-not-is_nan
 unfolding ranks_before
-returns c = rw (c.if-a-b.false, sym c.is_nan.ensures ∙ c.if-is_nan.false, c.is_nan-2.ensures)
+returns-else-not-is_nan c = rw (c.if-a-b.false, ← c.is_nan.ensures.value, c.if-not-is_nan.false)

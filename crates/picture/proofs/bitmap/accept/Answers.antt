@@ -1,4 +1,5 @@
 -- `accept` goes on from `sides`: what that refuses stands, else 4 is tested. Assumes nothing.
+use Rattle.std.proofs.lemmas.Result.{err_from_is_err_and}
 use mathlib.Core.Path.{◌≡◌, sym, ◌∙◌}
 use mathlib.Core.List.{List, [], ◌∷◌, ◌++◌}
 use lib.ListN.{length}
@@ -9,22 +10,23 @@ use Rattle.picture.specs.Bitmap.{byte_test}
 use Rattle.picture.proofs.Judged.{refusal_stands, sound_clear}
 use Rattle.picture.proofs.bitmap.accept.Goals as goal
 
-pub returns-in-Refused : goal.returns-in-Refused
-returns-in-Refused c =
+pub returns-in_err-sides : goal.returns-in_err-sides
+returns-in_err-sides c =
     let before : List Test = side_tests c.args.width c.args.height (length c.args.pic.now) in
     let after : List Test = byte_test c.args.pic.now ∷ [] in
-    refusal_stands (before) (after) sound c.sides.ensures c.in-Refused.is
+    let p = err_from_is_err_and c.from_residual.result c.from_residual.ensures.1 in
+    rw (p.1, p.2) (refusal_stands (before) (after) sound c.sides.ensures c.in_err-sides.was)
 
-pub returns-then-is_bitmap : goal.returns-then-is_bitmap
-returns-then-is_bitmap c =
+pub returns : goal.returns
+returns c =
     let before : List Test = side_tests c.args.width c.args.height (length c.args.pic.now) in
     let after : List Test = byte_test c.args.pic.now ∷ [] in
-    let only : first (before ++ after) sound ≡ first (after) sound = first_after (before) (after) sound (sound_clear (before) c.sides.ensures c.in-Sound.is) in
-    sym (only ∙ rw (sym c.is_bitmap.ensures ∙ c.if-is_bitmap.true))
+    let only : first (before ++ after) sound ≡ first (after) sound = first_after (before) (after) sound (sound_clear (before) c.sides.ensures c.in_ok-sides.was) in
+    sym (only ∙ rw (sym c.is_bitmap.ensures ∙ c.if-not-is_bitmap.false))
 
-pub returns-else-is_bitmap : goal.returns-else-is_bitmap
-returns-else-is_bitmap c =
+pub returns-then-not-is_bitmap : goal.returns-then-not-is_bitmap
+returns-then-not-is_bitmap c =
     let before : List Test = side_tests c.args.width c.args.height (length c.args.pic.now) in
     let after : List Test = byte_test c.args.pic.now ∷ [] in
-    let only : first (before ++ after) sound ≡ first (after) sound = first_after (before) (after) sound (sound_clear (before) c.sides.ensures c.in-Sound.is) in
-    sym (only ∙ rw (sym c.is_bitmap.ensures ∙ c.if-is_bitmap.false))
+    let only : first (before ++ after) sound ≡ first (after) sound = first_after (before) (after) sound (sound_clear (before) c.sides.ensures c.in_ok-sides.was) in
+    sym (only ∙ rw (sym c.is_bitmap.ensures ∙ c.if-not-is_bitmap.true))

@@ -2,10 +2,10 @@
 use Rattle.refine.specs.Refine.{judged}
 use Rattle.refine.proofs.trial.judged.Goals as goal
 
-pub returns-in-Done : goal.returns-in-Done
+pub returns-in_err-other : goal.returns-in_err-other
 unfolding judged
-returns-in-Done c = rw (c.in-Done.is, c.better.ensures)
+returns-in_err-other c = rw (c.from_residual.ensures, c.in_err-other.was)
 
-pub returns-in-Unplaced : goal.returns-in-Unplaced
+pub returns : goal.returns
 unfolding judged
-returns-in-Unplaced c = rw c.in-Unplaced.is
+returns c = rw (c.in_ok-other.was, c.better.ensures)

@@ -7,13 +7,13 @@ use Rattle.refine.proofs.trial.pass.Goals as goal
 
 pub loop-i-init : goal.loop-i-init
 unfolding trials
-loop-i-init c = (omega arith, refl)
+loop-i-init c = refl
 
 pub loop-i-preserved : goal.loop-i-preserved
 unfolding trials
-loop-i-preserved c = (omega arith, rw (c.trial-best.ensures, c.loop-i.invariant.1, add-one))
+loop-i-preserved c = rw (c.trial-best.ensures, c.loop-i.invariant, add-one)
 
 pub returns : goal.returns
 returns c =
     let last : c.loop-i.i ≡ 16 = omega arith in
-    rw (← last) c.loop-i.invariant.1
+    rw (← last) c.loop-i.invariant

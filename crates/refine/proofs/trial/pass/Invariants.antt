@@ -1,5 +1,4 @@
 -- `pass` makes one trial after the other. Assumes nothing.
-use Prim.Native.Nat.{◌-◌, ◌≤◌}
 use mathlib.Core.Path.{◌≡◌}
 use Rattle.fitness.specs.Fitness.{fitness_of}
 use Rattle.refine.specs.Refine.{meaning, trials}
@@ -7,7 +6,4 @@ use Rattle.refine.proofs.trial.pass.Given as goal
 
 abbrev pub invariant-loop-i : goal.invariant-loop-i
 invariant-loop-i l =
-    (l.i ≤ 16) × (meaning l.best ≡ trials (fitness_of l.pic l.width l.height l.size) l.steps l.i (meaning l.initial.best))
-
-abbrev pub decreases-loop-i : goal.decreases-loop-i
-decreases-loop-i l = 16 - l.i
+    meaning l.best ≡ trials (fitness_of l.pic l.width l.height l.size) l.steps l.i (meaning l.initial.best)

@@ -2,9 +2,6 @@
 use Rattle.refine.specs.Refine.{trial}
 use Rattle.refine.proofs.trial.trial.Goals as goal
 
-pub returns-in-Done : goal.returns-in-Done
-returns-in-Done c = rw c.in-Done.is c.tried.ensures
-
-pub returns-in-Unplaced : goal.returns-in-Unplaced
+pub returns-in_err-earlier : goal.returns-in_err-earlier
 unfolding trial
-returns-in-Unplaced c = rw c.in-Unplaced.is
+returns-in_err-earlier c = rw (c.from_residual.ensures, c.in_err-earlier.was)

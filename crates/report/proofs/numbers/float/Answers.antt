@@ -4,4 +4,4 @@ use Rattle.report.proofs.numbers.float.Goals as goal
 
 pub returns : goal.returns
 unfolding float
-returns c = rw (← c.bits_of.ensures) c.hex.ensures
+returns c = rw (← c.f64_to_bits_with_nan.ensures) c.hex.ensures

@@ -1,12 +1,9 @@
 -- `next_line` stops at the first line that has a cut, or below the last line. Assumes nothing.
 use native.Mathlib.Omega.{arith}
-use mathlib.Core.Path.{refl, sym, ◌∙◌}
+use mathlib.Core.Path.{◌≡◌, sym, ◌∙◌}
 use Rattle.pieces.proofs.Index.{line_fits}
 use Rattle.scanner.proofs.NextLine.{line_here, line_on, line_last}
 use Rattle.scanner.proofs.lines.next_line.Goals as goal
-
-pub loop-line-init : goal.loop-line-init
-loop-line-init c = (refl, c.requires.0)
 
 pub overflow_mul-line : goal.overflow_mul-line
 overflow_mul-line c =
@@ -18,12 +15,13 @@ has_cut-requires c =
 
 pub returns-then-has_cut : goal.returns-then-has_cut
 returns-then-has_cut c =
-    sym (c.loop-line.invariant.0 ∙ line_here _ _ _ c.loop-line.line c.loop-line-test.true (sym c.has_cut.ensures ∙ c.if-has_cut.true))
+    sym (c.loop-line.invariant ∙ line_here _ _ _ c.loop-line.line c.loop-line-test.true (sym c.has_cut.ensures ∙ c.if-has_cut.true))
 
 pub loop-line-preserved : goal.loop-line-preserved
 loop-line-preserved c =
-    (c.loop-line.invariant.0 ∙ line_on _ _ _ c.loop-line.line c.loop-line-test.true (sym c.has_cut.ensures ∙ c.if-has_cut.false), omega arith)
+    c.loop-line.invariant ∙ line_on _ _ _ c.loop-line.line c.loop-line-test.true (sym c.has_cut.ensures ∙ c.if-has_cut.false)
 
 pub returns : goal.returns
 returns c =
-    sym (c.loop-line.invariant.0 ∙ line_last _ _ _ c.loop-line.line c.loop-line-test.false)
+    let all : c.loop-line.line ≡ c.args.height = omega (arith, c.loop-line.auto.line-end c.requires.0) in
+    sym (rw all at (c.loop-line.invariant ∙ line_last _ _ _ c.loop-line.line c.loop-line-test.false))

@@ -1,11 +1,8 @@
 -- `next_line` stops at the first line that has a cut, or below the last line. Assumes nothing.
-use Prim.Native.Nat.{◌-◌, ◌≤◌}
+use Prim.Native.Nat.{◌-◌}
 use mathlib.Core.Path.{◌≡◌}
 use Rattle.scanner.specs.Lines.{next_line}
 use Rattle.scanner.proofs.lines.next_line.Given as goal
 
 abbrev pub invariant-loop-line : goal.invariant-loop-line
-invariant-loop-line l = (next_line l.pic l.width (l.height - l.y) l.y ≡ next_line l.pic l.width (l.height - l.line) l.line) × (l.line ≤ l.height)
-
-abbrev pub decreases-loop-line : goal.decreases-loop-line
-decreases-loop-line l = l.height - l.line
+invariant-loop-line l = next_line l.pic l.width (l.height - l.y) l.y ≡ next_line l.pic l.width (l.height - l.line) l.line

@@ -7,20 +7,11 @@ use Rattle.table.proofs.age.once_each.Goals as goal
 pub loop-i-init : goal.loop-i-init
 loop-i-init c = mark_begin _ _ c.requires.0
 
-pub overflow_cast-k : goal.overflow_cast-k
-overflow_cast-k c = omega (arith, c.shared_slice_known-1.given (c.loop-i.i - 1))
-
 pub returns-then-n-k : goal.returns-then-n-k
 returns-then-n-k c = mark_large c.loop-i.invariant (omega arith) c.if-n-k.true
 
-pub bounds-seen-k : goal.bounds-seen-k
-bounds-seen-k c = omega (arith, c.shared_slice_known-1.given (c.loop-i.i - 1))
-
 pub returns-then-seen-k : goal.returns-then-seen-k
 returns-then-seen-k c = mark_again c.loop-i.invariant (omega arith) c.if-seen-k.true
-
-pub bounds-seen-k-in-loop-i : goal.bounds-seen-k-in-loop-i
-bounds-seen-k-in-loop-i c = omega (arith, c.shared_slice_known-1.given (c.loop-i.i - 1))
 
 pub loop-i-preserved : goal.loop-i-preserved
 loop-i-preserved c =

@@ -1,21 +1,19 @@
--- `all_inside` is the test of the seeds: it goes down the entries. Assumes nothing.
-use Prim.Native.Nat.{◌-◌}
+-- `all_inside` is the test of the seeds. Assumes nothing.
 use native.Mathlib.Omega.{arith}
-use mathlib.Core.Path.{refl, sym, ◌∙◌}
+use mathlib.Core.Path.{◌≡◌, ◌∙◌}
+use lib.ListN.{length, take}
 use borrow.Author.Rules.{rules}
-use Rattle.table.proofs.Seeds.{seed_out, seed_in, seeds_end}
+use Rattle.std.specs.List.{list_all}
+use Rattle.std.proofs.lemmas.Iterator.{YieldsList-from_slice}
+use Rattle.std.proofs.lemmas.Iterator.Search.{all_from_yields_List}
+use borrow.Author.Tests.{tests}
+use Rattle.table.specs.Sound.{inside}
+use Rattle.table.proofs.Seeds.{seeds_tested}
 use Rattle.table.proofs.sound.all_inside.Goals as goal
 
-pub loop-i-init : goal.loop-i-init
-loop-i-init c = (search rules, refl)
-
-pub returns-then-not-entry_inside : goal.returns-then-not-entry_inside
-returns-then-not-entry_inside c =
-    seed_out c.args.t.entries c.args.n c.args.width c.args.height c.loop-i.i (c.loop-i.i - 1) (omega arith) c.loop-i.invariant.1 (sym c.entry_inside.ensures ∙ c.if-not-entry_inside.true)
-
-pub loop-i-preserved : goal.loop-i-preserved
-loop-i-preserved c =
-    (omega arith, seed_in c.args.t.entries c.args.n c.args.width c.args.height c.loop-i.i (c.loop-i.i - 1) (omega arith) c.loop-i.invariant.1 (sym c.entry_inside.ensures ∙ c.if-not-entry_inside.false))
-
 pub returns : goal.returns
-returns c = seeds_end _ _ _ _ _ (omega arith) c.loop-i.invariant.1
+returns c =
+    let each : c.all.result ≡ list_all (λ e. inside e c.args.width c.args.height) (take c.args.n c.args.t.entries) =
+    all_from_yields_List (λ e. inside e c.args.width c.args.height) _ _ c.all.result c.all.ensures.ran (YieldsList-from_slice (take c.args.n c.args.t.entries) cc) (λ x b q k. search (rules, tests)) in
+    let whole : length c.args.t.entries ≡ 251 = search rules in
+    each ∙ seeds_tested c.args.t.entries c.args.n c.args.width c.args.height (omega arith)

@@ -3,10 +3,10 @@ use Rattle.told_claims.specs.Claims.{count_values}
 use Rattle.told.proofs.Tell.{tell_refused}
 use Rattle.told_claims.proofs.claims.put_claimed.Goals as goal
 
-pub returns-in-Done : goal.returns-in-Done
+pub returns-in-Ok : goal.returns-in-Ok
 unfolding count_values
-returns-in-Done c = rw c.in-Done.is c.put_counts.ensures
+returns-in-Ok c = rw c.in-Ok.is c.put_counts.ensures
 
-pub returns-in-Refused : goal.returns-in-Refused
+pub returns-in-Err : goal.returns-in-Err
 unfolding count_values
-returns-in-Refused c = rw (c.in-Refused.is, c.number_of.ensures) (tell_refused _ _)
+returns-in-Err c = rw (c.in-Err.is, c.from.ensures) (tell_refused _ _)

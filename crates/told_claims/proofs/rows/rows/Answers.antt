@@ -6,9 +6,9 @@ use Rattle.told.proofs.Tell.{tell_refused}
 use Rattle.told_claims.proofs.rows.rows.Goals as goal
 
 pub put_rows-requires : goal.put_rows-requires
-put_rows-requires c = sym c.judge.ensures ∙ ap judged c.in-Sound.is
+put_rows-requires c = sym c.judge.ensures ∙ ap judged c.in-Ok.is
 
-pub returns-in-Refused : goal.returns-in-Refused
-returns-in-Refused c =
-    let refused = sym c.judge.ensures ∙ ap judged c.in-Refused.is in
-    rw c.number_of.ensures (refuses _ refused refl (tell_refused _ _) (tell_refused _ _))
+pub returns-in-Err : goal.returns-in-Err
+returns-in-Err c =
+    let refused = sym c.judge.ensures ∙ ap judged c.in-Err.is in
+    rw c.from.ensures (refuses _ refused refl (tell_refused _ _) (tell_refused _ _))

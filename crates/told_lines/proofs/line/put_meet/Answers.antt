@@ -7,13 +7,13 @@ use Rattle.told.proofs.Tell.{tell_nothing}
 use borrow.Author.Rules.{rules}
 use Rattle.told_lines.proofs.line.put_meet.Goals as goal
 
-pub returns-in-At : goal.returns-in-At
+pub returns-in-Some : goal.returns-in-Some
 unfolding meet_values
-returns-in-At c =
-    let same_x : to_z w32 (of_z w32 c.in-At.p.x) ≡ c.in-At.p.x = search rules in
-    let same_y : to_z w32 (of_z w32 c.in-At.p.y) ≡ c.in-At.p.y = search rules in
-    rw c.in-At.is (rw (same_x, same_y) at c.numbers.ensures)
+returns-in-Some c =
+    let same_x : to_z w32 (of_z w32 c.in-Some.p.x) ≡ c.in-Some.p.x = search rules in
+    let same_y : to_z w32 (of_z w32 c.in-Some.p.y) ≡ c.in-Some.p.y = search rules in
+    rw c.in-Some.is (rw (same_x, same_y) at c.numbers.ensures)
 
-pub returns-in-Nowhere : goal.returns-in-Nowhere
+pub returns-in-None : goal.returns-in-None
 unfolding meet_values
-returns-in-Nowhere c = rw c.in-Nowhere.is (tell_nothing _)
+returns-in-None c = rw c.in-None.is (tell_nothing _)

@@ -1,5 +1,5 @@
 -- `put_entries` writes a table's places one after the other. Assumes nothing.
-use Prim.Native.Nat.{◌-◌, ◌≤◌}
+use Prim.Native.Nat.{◌-◌}
 use mathlib.Core.Path.{◌≡◌}
 use lib.ListN.{length}
 use Rattle.told_places.specs.Put.{put_each}
@@ -8,7 +8,4 @@ use Rattle.told_places.proofs.entries.put_entries.Given as goal
 
 abbrev pub invariant-loop-k : goal.invariant-loop-k
 invariant-loop-k l =
-    (put_each (table_numbers l.table) 4 (251 - l.k) l.k l.out ≡ put_each (table_numbers l.table) 4 251 0 l.initial.out) × (length l.out ≡ length l.initial.out) × (l.k ≤ 251)
-
-abbrev pub decreases-loop-k : goal.decreases-loop-k
-decreases-loop-k l = 251 - l.k
+    (put_each (table_numbers l.table) 4 (251 - l.k) l.k l.out ≡ put_each (table_numbers l.table) 4 251 0 l.initial.out) × (length l.out ≡ length l.initial.out)

@@ -7,13 +7,13 @@ use Rattle.told.proofs.Tell.{tell_refused}
 use borrow.Author.Rules.{rules}
 use Rattle.told_points.proofs.perspective.put_spot.Goals as goal
 
-pub returns-in-Placed : goal.returns-in-Placed
+pub returns-in-Some : goal.returns-in-Some
 unfolding place_values
-returns-in-Placed c =
-    let same_x : to_z w32 (of_z w32 c.in-Placed.p.x) ≡ c.in-Placed.p.x = search rules in
-    let same_y : to_z w32 (of_z w32 c.in-Placed.p.y) ≡ c.in-Placed.p.y = search rules in
-    rw c.in-Placed.is (rw (same_x, same_y) at c.numbers.ensures)
+returns-in-Some c =
+    let same_x : to_z w32 (of_z w32 c.in-Some.p.x) ≡ c.in-Some.p.x = search rules in
+    let same_y : to_z w32 (of_z w32 c.in-Some.p.y) ≡ c.in-Some.p.y = search rules in
+    rw c.in-Some.is (rw (same_x, same_y) at c.numbers.ensures)
 
-pub returns-in-Unplaced : goal.returns-in-Unplaced
+pub returns-in-None : goal.returns-in-None
 unfolding place_values
-returns-in-Unplaced c = rw c.in-Unplaced.is (tell_refused 13 _)
+returns-in-None c = rw c.in-None.is (tell_refused 13 _)

@@ -7,12 +7,12 @@ use Rattle.told.proofs.Tell.{tell_refused}
 use borrow.Author.Rules.{rules}
 use Rattle.told_points.proofs.whole.put_whole.Goals as goal
 
-pub returns-in-At : goal.returns-in-At
+pub returns-in-Some : goal.returns-in-Some
 unfolding whole_values
-returns-in-At c =
-    let same : to_z w32 (of_z w32 c.in-At.z) ≡ c.in-At.z = search rules in
-    rw c.in-At.is (rw same at c.number.ensures)
+returns-in-Some c =
+    let same : to_z w32 (of_z w32 c.in-Some.z) ≡ c.in-Some.z = search rules in
+    rw c.in-Some.is (rw same at c.number.ensures)
 
-pub returns-in-Off : goal.returns-in-Off
+pub returns-in-None : goal.returns-in-None
 unfolding whole_values
-returns-in-Off c = rw c.in-Off.is (tell_refused 13 _)
+returns-in-None c = rw c.in-None.is (tell_refused 13 _)

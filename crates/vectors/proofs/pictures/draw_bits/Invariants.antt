@@ -1,5 +1,4 @@
 -- `draw_bits` sets pixel after pixel. Assumes nothing.
-use Prim.Native.Nat.{◌-◌}
 use lib.ListN.{length}
 use Rattle.vectors.specs.Pictures.{bit_at}
 use Rattle.vectors.proofs.Drawing.{Drawing}
@@ -7,6 +6,3 @@ use Rattle.vectors.proofs.pictures.draw_bits.Given as goal
 
 abbrev pub invariant-loop-i : goal.invariant-loop-i
 invariant-loop-i l = Drawing (bit_at l.text) (length l.initial.pic) l.i l.pic
-
-abbrev pub decreases-loop-i : goal.decreases-loop-i
-decreases-loop-i l = length l.initial.pic - l.i

@@ -1,4 +1,5 @@
 -- `draw_bytes` sets pixel after pixel. Assumes nothing.
+use borrow.Author.Rules.{rules}
 use Rattle.vectors.specs.Pictures.{byte_at}
 use Rattle.vectors.proofs.Drawing.{draws, draws_on, drawn}
 use Rattle.vectors.proofs.pictures.draw_bytes.Goals as goal
@@ -15,9 +16,9 @@ loop-i-preserved c =
     c.loop-i.i
     c.loop-i.pic
     _
-    c.loop-i-test.true
+    (search rules)
     (rw (c.byte_of.ensures, c.digit_at-high.ensures.0, c.digit_at-low.ensures.0))
     c.loop-i.invariant
 
 pub returns : goal.returns
-returns c = drawn (byte_at c.args.text.now) _ c.loop-i.i c.loop-i.pic c.loop-i-test.false c.loop-i.invariant
+returns c = drawn (byte_at c.args.text.now) _ c.loop-i.i c.loop-i.pic (search rules) c.loop-i.invariant

@@ -1,9 +1,0 @@
--- `picture` ends, and reads only the picture. Assumes nothing.
-use Rattle.std.proofs.Common.{◌≡◌, ◌-◌, length}
-use Rattle.replay.proofs.put.picture.Given as goal
-
-abbrev pub invariant-loop-i : goal.invariant-loop-i
-invariant-loop-i l = length l.out ≡ length l.initial.out
-
-abbrev pub decreases-loop-i : goal.decreases-loop-i
-decreases-loop-i l = length l.pic - l.i

@@ -1,8 +1,0 @@
--- `read_all` ends: a cell asks nothing. Assumes nothing.
-use Rattle.vectors.proofs.cells_read.read_all.Given as goal
-
-abbrev pub invariant-loop-left : goal.invariant-loop-left
-invariant-loop-left l = Unit {0}
-
-abbrev pub decreases-loop-left : goal.decreases-loop-left
-decreases-loop-left l = l.left
