@@ -11,5 +11,5 @@ mod visit;
 pub use estimate::size_estimate;
 pub use pattern::leftmost;
 pub use search::{Sought, find_alignment_pattern};
-pub use spiral::{Direction, Pass};
+pub use spiral::Pass;
 pub use visit::Visit;

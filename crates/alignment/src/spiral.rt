@@ -1,65 +1,21 @@
 // The spiral: its passes, one place further each, and its legs, each at a right angle to the one before.
 ghost use Rattle.std.specs.Prelude.{◌≡◌, ◌+◌, ◌^◌, ◌<◌, nat_abs};
-ghost use Rattle.alignment.specs.Spiral.{first_pass, leg_of, turned, next_pass, way_x, way_y, moved, Turning};
+ghost use Rattle.alignment.specs.Spiral.{first_pass, leg_of, next_pass, way_x, way_y, moved, Turning};
 
 use points::Point;
 use sizes::sum;
 
-// The direction of a leg.
-#[derive(Clone, Copy, Debug, PartialEq, Eq)]
-pub enum Direction {
-    Right,
-    Up,
-    Left,
-    Down,
-}
-
-impl Direction {
-    // The direction of the next leg.
-    fn turned(self) -> Direction
-        ensures { result ≡ turned self }
-    {
-        match self {
-            Direction::Right => Direction::Up,
-            Direction::Up => Direction::Left,
-            Direction::Left => Direction::Down,
-            Direction::Down => Direction::Right,
-        }
-    }
-
-    // How far it leads to the right.
-    fn way_x(self) -> i32
-        ensures { result ≡ way_x self }
-    {
-        match self {
-            Direction::Right => 1,
-            Direction::Left => -1,
-            Direction::Up | Direction::Down => 0,
-        }
-    }
-
-    // How far it leads down.
-    fn way_y(self) -> i32
-        ensures { result ≡ way_y self }
-    {
-        match self {
-            Direction::Up => -1,
-            Direction::Down => 1,
-            Direction::Right | Direction::Left => 0,
-        }
-    }
-}
-
 // A pass of the spiral: its direction, how many passes its leg has, and how many of them are left, this one included.
+// The direction is a number and no enum: `moved` takes any, and the laws `leg_goes_on` and `leg_ends` speak of every one.
 #[derive(Clone, Copy)]
 pub struct Pass {
-    pub dir: Direction,
+    pub dir: usize,
     pub step: usize,
     pub left: usize,
 }
 
 // The first pass of a leg.
-fn leg(dir: Direction, step: usize) -> Pass
+fn leg(dir: usize, step: usize) -> Pass
     ensures { result ≡ leg_of dir step }
 {
     Pass {
@@ -73,28 +29,52 @@ fn leg(dir: Direction, step: usize) -> Pass
 pub fn first_pass() -> Pass
     ensures { result ≡ first_pass }
 {
-    leg(Direction::Right, 1)
+    leg(0, 1)
+}
+
+// How far a direction leads to the right.
+fn way_x(dir: usize) -> i32
+    ensures { result ≡ way_x dir }
+{
+    match dir {
+        0 => 1,
+        2 => -1,
+        _ => 0,
+    }
+}
+
+// How far a direction leads down.
+fn way_y(dir: usize) -> i32
+    ensures { result ≡ way_y dir }
+{
+    match dir {
+        1 => -1,
+        3 => 1,
+        _ => 0,
+    }
 }
 
 impl Pass {
-    // The next pass: of the same leg, or the first of the next leg. A leg to the right or to the left is one longer than the leg before.
+    // The next pass: of the same leg, or the first of the next leg.
     pub fn next(self) -> Pass
         requires { Turning self }
         ensures { result ≡ next_pass self }
     {
+        let dir = self.dir;
+        let step = self.step;
         let left = self.left;
         if left > 1 {
             return Pass {
+                dir: dir,
+                step: step,
                 left: left - 1,
-                ..self
             };
         }
-        let step = self.step;
-        let turned = self.dir.turned();
-        match turned {
-            Direction::Right | Direction::Left => leg(turned, step + 1),
-            Direction::Up | Direction::Down => leg(turned, step),
+        let turned = (dir + 1) % 4;
+        if turned % 2 == 0 {
+            return leg(turned, step + 1);
         }
+        leg(turned, step)
     }
 
     // The place that the pass leads to.
@@ -103,8 +83,8 @@ impl Pass {
         ensures { result ≡ moved self at }
     {
         let dir = self.dir;
-        let x = sum(at.x, dir.way_x());
-        let y = sum(at.y, dir.way_y());
+        let x = sum(at.x, way_x(dir));
+        let y = sum(at.y, way_y(dir));
         Point { x: x, y: y }
     }
 }
