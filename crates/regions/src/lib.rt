@@ -28,11 +28,12 @@ pub enum ColoredRegion {
     Unclaimed(Region),
 }
 
-// A lookup's answer, beside the table that it leaves.
+// A lookup's answer, beside the table that it leaves. The table stands first: behind an answer there would be a gap before it, and to clear the gap
+// each lookup would clear a whole table.
 #[derive(Clone, Copy)]
 pub struct Looked {
-    pub found: Result<ColoredRegion, Refusal>,
     pub table: Table,
+    pub found: Result<ColoredRegion, Refusal>,
 }
 
 // Looks the piece of (x, y) up, where nothing is to be refused.
