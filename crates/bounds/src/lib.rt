@@ -21,6 +21,7 @@ pub struct Grid {
 }
 
 // The grid with these bounds, if all four are placed.
+#[tactic(auto, unfolding(crate::specs::Bounds::with_bounds))]
 fn with_bounds(
     location: SkewedGridLocation,
     b0: Option<Point>,

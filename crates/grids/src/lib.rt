@@ -41,6 +41,7 @@ fn located(best: Refined, size: usize) -> Result<Option<SkewedGridLocation>, Ref
 }
 
 // The grid that refinement arrives at from c.
+#[tactic(auto, unfolding(crate::specs::Grid::refined_grid, crate::specs::Grid::grid_of))]
 fn refined(
     pic: &[u8],
     width: usize,

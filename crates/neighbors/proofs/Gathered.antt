@@ -1,5 +1,5 @@
 -- The first stones of a list, copied over the front of an array: a ranking does not see the difference. Assumes nothing.
-use mathlib.Core.Path.{◌≡◌}
+use mathlib.Core.Path.{◌≡◌, ◌∙◌}
 use Prim.Native.Nat.{ℕ, ◌<◌, ◌≤◌}
 use native.Mathlib.Decide.{dec_le}
 use native.Mathlib.Omega.{arith}
@@ -33,3 +33,10 @@ fewer_low n =
 pub ranking_alike : (a l : List CapStone) (n idx : ℕ) → (n ≤ most_stones → take n a ≡ take n l) → ranking a n idx ≡ ranking l n idx
 unfolding ranking
 ranking_alike a l n idx same = by_cases (dec_le n most_stones) (λ few. rw (same few)) (λ m. let many : most_stones < n = omega arith in rw (lt-ltb most_stones n many))
+
+-- an array with l's first stones in front, as many as a ranking looks at, ranks as l does
+pub ranked_alike : (a l s : List CapStone) (k idx : ℕ) → s ≡ take k l → k ≡ fewer (length l) → ranking (s ++ drop k a) (length l) idx ≡ ranking l (length l) idx
+ranked_alike a l s k idx e same = ranking_alike (s ++ drop k a) l (length l) idx (λ few. gathered l a s k (length l) e (same ∙ fewer_all (length l) few) (omega arith))
+
+pub front_length : (a : List CapStone) (k : ℕ) → k ≤ length a → length (take k a) ≡ k
+front_length a k h = length-take-le k a h

@@ -16,6 +16,7 @@ fn taken(n: usize) -> usize
 }
 
 // The pairs of neighbours of stone idx, of the stones that are lent: 11, 16, or the pairs.
+#[tactic(auto, using(crate::proofs::Gathered::fewer_low, crate::proofs::Gathered::front_length, crate::proofs::Gathered::ranked_alike))]
 pub fn rank_neighbors(stones: &[CapStone], idx: usize) -> Ranked
     ensures { Tells (ranking stones.now (length stones.now) idx) result }
 {

@@ -73,6 +73,7 @@ fn outline_turned(
 }
 
 // The outline of a group: 15; then 13, 12, 14 of the timing pattern; then 12 of the corner.
+#[tactic(auto, unfolding(crate::specs::Outline::outline_of, crate::specs::Outline::turned_outline))]
 pub fn outline_of(
     pic: &[u8],
     width: usize,

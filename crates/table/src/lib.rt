@@ -39,6 +39,7 @@ pub fn empty() -> Table
 }
 
 // A trial's copy: the entries kept, the age order turned round.
+#[tactic(auto, unfolding(crate::specs::Age::turned_round))]
 pub fn copied(t: Table) -> Table
     requires { t.n ≤ 251 }
     ensures { result ≡ copy_of t }

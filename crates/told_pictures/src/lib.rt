@@ -9,6 +9,7 @@ ghost use Rattle.told_pictures.specs.Pictures.{verdict_number, Thresholds};
 use told_places::status_of;
 
 // Whether a picture is a bitmap, of bytes 0 and 1: 0, or the refusal 1, 2 or 4.
+#[tactic(auto, using(crate::proofs::Numbers::status_is))]
 pub fn accept(pic: &[u8], width: usize, height: usize) -> u8
     ensures { result ≡ verdict_number (first (accept_tests pic.now width height) sound) }
 {
@@ -16,6 +17,7 @@ pub fn accept(pic: &[u8], width: usize, height: usize) -> u8
 }
 
 // Makes a grey picture, 0 for black, a bitmap, in place: 0, or the refusal 1 or 2.
+#[tactic(auto, using(crate::proofs::Numbers::status_is))]
 pub fn prepare(pic: &mut [u8], width: usize, height: usize) -> u8
     ensures { Thresholds width height pic.old result pic.new }
 {

@@ -1,6 +1,7 @@
 -- `is_made_of` compares the sizes, and corner by corner. Assumes nothing.
 use mathlib.Core.Path.{◌≡◌, sym, ◌∙◌}
 use mathlib.Core.Bool.{true, ◌&&◌, true≢false}
+use borrow.Author.Rules.{rules}
 use Rattle.std.specs.Ordering.{int_eq}
 use Rattle.std.proofs.lemmas.Bool.Decides.{Decides-eqb, Decides-int_eq, Decides-and}
 use Rattle.points.specs.declared.Point.{Point}
@@ -23,10 +24,10 @@ returns-then-eq-3 c e =
                   | then-s-size u ↦
                       record {
                         size = u.if-s-size.true;
-                        p0 = one_point (sym u.eq.ensures ∙ sym u.value-is ∙ v.if-eq.true);
-                        p1 = one_point (sym v.eq-then-eq.ensures ∙ sym v.value-is ∙ w.if-eq-2.true);
-                        p2 = one_point (sym w.eq-then-eq-2.ensures ∙ sym w.value-is ∙ c.if-eq-3.true);
-                        p3 = one_point (sym c.eq-then-eq-3.ensures ∙ e);
+                        p0 = one_point (sym u.eq.ensures ∙ sym u.value-is ∙ v.if-eq.true) ∙ search rules;
+                        p1 = one_point (sym v.eq-then-eq.ensures ∙ sym v.value-is ∙ w.if-eq-2.true) ∙ search rules;
+                        p2 = one_point (sym w.eq-then-eq-2.ensures ∙ sym w.value-is ∙ c.if-eq-3.true) ∙ search rules;
+                        p3 = one_point (sym c.eq-then-eq-3.ensures ∙ e) ∙ search rules;
                       }
                   | else-s-size u ↦ absurd (u.if-s-size.false ((Decides-eqb _ _).0 (sym u.value-is ∙ v.if-eq.true)))
                 ]
